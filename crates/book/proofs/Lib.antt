@@ -1,0 +1,9 @@
+-- Laws of the book's definitions, for the proofs of this crate and of the crates above it.
+pub mod Placing
+pub mod Chunks
+pub mod Cutting
+pub mod Bodies
+pub mod Searching
+pub mod Passing
+pub mod Acceptance
+pub mod Handed

@@ -1,0 +1,13 @@
+use Rattle.book.specs.Counts.{countsOf}
+use borrow.Author.Needs.{needs}
+use Rattle.book.proofs.header.counts.Statement.{statement}
+use Rattle.book.proofs.header.counts.Tie as tie
+
+returns : tie.Need-returns
+unfolding countsOf
+returns c = cc
+
+pub counts-spec : {M : Type 1} → statement M
+counts-spec =
+    tie.close
+    (tie.spec (λ c. search needs) (λ c. search needs) (λ c. search needs) (λ c. search needs) returns)
