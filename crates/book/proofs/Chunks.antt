@@ -1,4 +1,4 @@
--- The rows of a body: how many there are, where each lies, and the rows of two bodies one after the other.
+-- The rows of a body: how many there are, where each lies, and their fields.
 -- Assumes nothing.
 use mathlib.Core.Path.{_≡_, refl, ap, _∙_}
 use mathlib.Core.List.{List, []}

@@ -1,0 +1,85 @@
+-- The interest ladder adds up, for all bands and for every table of per cents up to 100.
+-- Assumes nothing.
+use Prim.Native.Nat.{ℕ, _+_, _*_, _≤_}
+use mathlib.Core.Path.{_≡_, sym, ap, _∙_}
+use mathlib.Core.List.{_++_}
+use native.Mathlib.Nat.{mul-le-mul-right}
+use native.Mathlib.Omega.{arith}
+use Rattle.ladder.specs.Sides.{Bands, _⊕_, gross, rest, absolute, total, vertical}
+use Rattle.ladder.specs.Interest.{Zones, Matches, Percents, Accepted, AddsUp, percents, zoneNets, together, held, matches, charge, chargeOf, matchSum, allBands}
+use Rattle.ladder.proofs.Matching.{Takes, takes-rest, takes-then, takes-beside, takes-gross, takes-net}
+use Rattle.ladder.proofs.Totals.{takes-vertical, total-append, vertical-append}
+use Rattle.ladder.proofs.Across.{spent-rest, crossing-adds-up, residual-is-net}
+
+module _ (z : Zones) (f : Bands) where
+  -- three zones put together
+  pub three-totals : (g : Bands) → total g (allBands z) ≡ total g (z .first) ⊕ (total g (z .second) ⊕ total g (z .third))
+  three-totals g = rw (total-append g (z .first), total-append g (z .second))
+
+  pub three-grosses : gross (total f (z .first)) + gross (total f (z .second)) + gross (total f (z .third)) ≡ gross (total f (allBands z))
+  three-grosses = omega (arith, ap gross (three-totals f))
+
+  pub three-verticals : vertical f (z .first) + vertical f (z .second) + vertical f (z .third) ≡ vertical f (allBands z)
+  three-verticals = omega (arith, vertical-append f (z .first) (z .second ++ z .third), vertical-append f (z .second) (z .third))
+
+  -- the bands, and then the band nets of each zone
+  takes-zones : Takes ((matches z f) .vertical + ((matches z f) .zone1 + ((matches z f) .zone2 + (matches z f) .zone3)))
+      (total f (allBands z))
+      (together (zoneNets z f))
+  unfolding matches
+  takes-zones =
+      takes-then (takes-vertical f (allBands z))
+      (rw (three-totals (λ i. rest (f i)))
+      (takes-beside (takes-rest _) (takes-beside (takes-rest _) (takes-rest _))))
+
+  pub zones-add-up : 2 * ((matches z f) .zones12 + (matches z f) .zones23 + (matches z f) .zones13) + (matches z f) .residual
+      ≡ held (zoneNets z f)
+  unfolding matches
+  zones-add-up = crossing-adds-up (zoneNets z f) (record { zone1 = spent-rest _; zone2 = spent-rest _; zone3 = spent-rest _ })
+
+  pub gross-adds-up : 2 * matchSum (matches z f) + (matches z f) .residual ≡ (matches z f) .gross
+  unfolding matches
+  gross-adds-up = omega (arith, takes-gross takes-zones, zones-add-up)
+
+  pub residual-is-whole-net : (matches z f) .residual ≡ absolute (total f (allBands z))
+  unfolding matches
+  residual-is-whole-net = residual-is-net (zoneNets z f) ∙ ap gross (sym (takes-net takes-zones))
+
+-- a charge lies between its residual alone and all matches at 100%
+module _ (p : Percents) (ok : Accepted p) (x : Matches) where
+  residual≤charge : 100 * x .residual ≤ charge p x
+  residual≤charge = omega arith
+
+  -- a per cent up to 100 of a match is at most the whole match
+  at-most : {per : ℕ} (m : ℕ) → per ≤ 100 → per * m ≤ 100 * m
+  at-most m h = mul-le-mul-right m h
+
+  charge≤ : charge p x ≤ 100 * (matchSum x + x .residual)
+  charge≤ =
+      omega (
+        arith,
+        at-most {per = p .vertical} (x .vertical) (omega arith),
+        at-most {per = p .zone1} (x .zone1) (omega arith),
+        at-most {per = p .zone2} (x .zone2) (omega arith),
+        at-most {per = p .zone3} (x .zone3) (omega arith),
+        at-most {per = p .adjacent} (x .zones12) (omega arith),
+        at-most {per = p .adjacent} (x .zones23) (omega arith),
+        at-most {per = p .apart} (x .zones13) (omega arith),
+      )
+
+pub adds-up : (p : Percents) → Accepted p → (z : Zones) (f : Bands) → AddsUp p z f
+adds-up p ok z f =
+    record {
+      gross = gross-adds-up z f;
+      residual = residual-is-whole-net z f;
+      least = residual≤charge p ok (matches z f);
+      most = omega (arith, charge≤ p ok (matches z f), gross-adds-up z f);
+    }
+
+-- what a machine number must hold
+pub charge-within : (p : Percents) → Accepted p → (z : Zones) (f : Bands) → chargeOf p z f ≤ 100 * (matches z f) .gross
+charge-within p ok z f = omega (arith, charge≤ p ok (matches z f), gross-adds-up z f)
+
+-- document 01's table is one of them
+pub percents-accepted : Accepted percents
+percents-accepted = omega arith

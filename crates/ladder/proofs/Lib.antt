@@ -1,0 +1,17 @@
+pub mod Matching
+pub mod Totals
+pub mod Across
+pub mod AddsUp
+pub mod Mirrored
+pub mod Joined
+pub mod Carrying
+pub mod Netting
+pub mod Sums
+pub mod Tables
+pub mod Books
+pub mod Bounds
+pub mod Taking
+pub mod Stepping
+pub mod Gathering
+pub mod Agreeing
+pub mod Worked
