@@ -1,0 +1,92 @@
+-- The tables of sums hold the bands of each group, and the groups of a class without bands.
+-- Assumes nothing.
+use mathlib.Core.Path.{_≡_, refl, sym, ap, _∙_, fun-ext}
+use mathlib.Core.Bool.{Bool, true, false, cond}
+use mathlib.Core.List.{List, [], _∷_}
+use Prim.Native.Nat.{ℕ, suc, _+_, _*_, _≤_, _<_}
+use native.Mathlib.Decide.{ℕ-discrete}
+use native.Mathlib.Nat.{add-zero}
+use native.Mathlib.Omega.{arith}
+use lib.ListN.{length, getD, replicate}
+use lib.Dec.{ltb, eqb}
+use Rattle.book.specs.declared.Row.{Row}
+use Rattle.ladder.specs.Rows.{only, sumOf, sumAt, tally}
+use Rattle.ladder.specs.Books.{inGroup, ladderOf, groupsOf}
+use Rattle.ladder.proofs.Matching.{same-sides}
+use Rattle.ladder.proofs.Tables.{tallied}
+use Rattle.ladder.proofs.Agreeing.{Agree}
+use borrow.Author.Tests.{eq-eqb, ne-eqb}
+use Rattle.charges.specs.Bands.{firstBand, highColumn, lowColumn, commodityColumn, interestBand, commodityBand, bandIn}
+use Rattle.charges.specs.Charges.{reading}
+use Rattle.charges.specs.Tables.{Sums, SumsOf, slotIn, tableBands, tableGroups}
+
+-- ---- a class has at most fifteen bands
+first-within : (days : ℕ) (column : List ℕ) → firstBand days column ≤ length column
+unfolding firstBand
+first-within days [] = omega arith
+first-within days (last ∷ column) = go (ltb last days) (first-within days column)
+  where
+    go : (test : Bool) → firstBand days column ≤ length column → cond test (suc (firstBand days column)) 0 ≤ suc (length column)
+    go true h = omega arith
+    go false h = omega arith
+
+either : (test : Bool) (a b : ℕ) → a < 15 → b < 15 → cond test a b < 15
+either true a b h k = h
+either false a b h k = k
+
+pub band-below : (class : ℕ) (row : Row) → bandIn class row < 15
+unfolding bandIn interestBand commodityBand
+band-below class row =
+    let days = row .days in
+    either (eqb class 1) (interestBand row) _
+    (either (ltb (row .coupon) 300) (firstBand days lowColumn) _ (omega (arith, first-within days lowColumn)) (omega (arith, first-within days highColumn)))
+    (either (eqb class 4) (commodityBand row) 0 (omega (arith, first-within days commodityColumn)) (omega arith))
+
+-- ---- a slot is of one group and one band
+one-slot : (group band g k x : ℕ) → band < 15 → k < 15 → only (eqb (15 * group + band) (15 * g + k)) x ≡ only (eqb band k) (only (eqb group g) x)
+one-slot group band g k x h h′ = go (ℕ-discrete group g) (ℕ-discrete band k)
+  where
+    go : Dec (group ≡ g) → Dec (band ≡ k) → only (eqb (15 * group + band) (15 * g + k)) x ≡ only (eqb band k) (only (eqb group g) x)
+    go (yes p) (yes q) = simp (eq-eqb group g p, eq-eqb band k q, eq-eqb (15 * group + band) (15 * g + k) (omega arith))
+    go (yes p) (no q) = simp (ne-eqb band k q, ne-eqb (15 * group + band) (15 * g + k) (λ e. q (omega arith)))
+    go (no p) (yes q) = simp (eq-eqb band k q, ne-eqb group g p, ne-eqb (15 * group + band) (15 * g + k) (λ e. p (omega arith)))
+    go (no p) (no q) = simp (ne-eqb band k q, ne-eqb (15 * group + band) (15 * g + k) (λ e. p (omega arith)))
+
+module _ (class : ℕ) (rows : List Row) where
+  -- one side of a band
+  slot-sum : (amount : Row → ℕ) (g k : ℕ) → g < 32 → k < 15
+      → getD (tally (slotIn class) amount (replicate 480 0) rows) (15 * g + k) 0 ≡ sumAt (bandIn class) (inGroup (reading class) g amount) k rows
+  unfolding slotIn
+  slot-sum amount g k h h′ =
+      tallied (slotIn class) amount 480 rows (15 * g + k) (omega arith)
+      ∙ ap (λ (f : Row → ℕ). sumOf f rows) (fun-ext (λ row. one-slot (row .group) (bandIn class row) g k (amount row) (band-below class row) h′))
+
+  group-sum : ((row : Row) → bandIn class row ≡ 0) → (amount : Row → ℕ) (g : ℕ) → g < 32
+      → getD (tally (slotIn class) amount (replicate 480 0) rows) (15 * g) 0 ≡ sumAt (λ row. row .group) amount g rows
+  group-sum flat amount g h =
+      ap (λ (n : ℕ). getD (tally (slotIn class) amount (replicate 480 0) rows) n 0) (sym (add-zero (15 * g)))
+      ∙ slot-sum amount g 0 h (omega arith)
+      ∙ ap (λ (f : Row → ℕ). sumOf f rows) (fun-ext (λ row. simp (flat row)))
+
+  module _ (sums : Sums) (of : SumsOf class rows sums) where
+    pub bands-agree : (g : ℕ) → g < 32 → Agree 15 (tableBands (sums .longs) (sums .shorts) g) (ladderOf (reading class) g rows)
+    bands-agree g h =
+        record {
+          below = λ k h′. same-sides (rw (of .longs) (slot-sum (λ row. row .long) g k h h′)) (rw (of .shorts) (slot-sum (λ row. row .short) g k h h′));
+        }
+
+    -- without bands a group has one slot
+    pub groups-agree : ((row : Row) → bandIn class row ≡ 0) → Agree 32 (tableGroups (sums .longs) (sums .shorts)) (groupsOf (reading class) rows)
+    groups-agree flat =
+        record {
+          below = λ g h. same-sides (rw (of .longs) (group-sum flat (λ row. row .long) g h)) (rw (of .shorts) (group-sum flat (λ row. row .short) g h));
+        }
+
+-- the classes without bands
+pub equity-flat : (row : Row) → bandIn 2 row ≡ 0
+unfolding bandIn
+equity-flat row = refl
+
+pub exchange-flat : (row : Row) → bandIn 3 row ≡ 0
+unfolding bandIn
+exchange-flat row = refl

@@ -1,0 +1,36 @@
+use mathlib.Core.Path.{refl}
+use native.Mathlib.Omega.{arith}
+use borrow.Author.Tests.{ne-eqb}
+use Rattle.charges.specs.Bands.{ascending, commodityBand, bandIn}
+use borrow.Author.Needs.{needs}
+use Rattle.charges.proofs.bands.band_in.Statement.{statement}
+use Rattle.charges.proofs.bands.band_in.Tie as tie
+
+first-band-requires : tie.Need-first-band-requires
+unfolding ascending
+first-band-requires c κs = refl
+
+returns : tie.Need-returns
+unfolding bandIn
+returns c = (simp (c .before .match .keys1) (c .interest-band .ensures .0), omega arith)
+
+returns-2 : tie.Need-returns-2
+unfolding bandIn commodityBand
+returns-2 c = (simp (c .before .before .match .keys2) (c .first-band .ensures .0), omega arith)
+
+returns-3 : tie.Need-returns-3
+unfolding bandIn
+returns-3 c =
+    let class = c .before .args .class in
+    (simp (ne-eqb class 1 (λ e. omega arith), ne-eqb class 4 (λ e. omega arith)), omega arith)
+
+pub band-in-spec : {M : Type 1} → statement M
+band-in-spec =
+    tie.close
+    (tie.spec
+    (λ c. search needs)
+    (λ c. search needs)
+    first-band-requires
+    returns
+    returns-2
+    returns-3)

@@ -1,0 +1,12 @@
+use native.Mathlib.Omega.{arith}
+use Rattle.charges.specs.Tables.{slotIn}
+use borrow.Author.Needs.{needs}
+use Rattle.charges.proofs.bands.slot_in.Statement.{statement}
+use Rattle.charges.proofs.bands.slot_in.Tie as tie
+
+returns : tie.Need-returns
+unfolding slotIn
+returns c = omega arith
+
+pub slot-in-spec : {M : Type 1} → statement M
+slot-in-spec = tie.close (tie.spec (λ c. search needs) (λ c. search needs) (λ c. search needs) (λ c. search needs) returns)

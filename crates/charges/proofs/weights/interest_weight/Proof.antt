@@ -1,0 +1,28 @@
+use native.Mathlib.Omega.{arith}
+use borrow.Author.Tests.{ne-eqb}
+use Rattle.charges.specs.Weights.{interestWeight}
+use borrow.Author.Needs.{needs}
+use Rattle.charges.proofs.weights.interest_weight.Statement.{statement}
+use Rattle.charges.proofs.weights.interest_weight.Tie as tie
+
+returns : tie.Need-returns
+unfolding interestWeight
+returns c = simp (c .match .keys1)
+
+returns-2 : tie.Need-returns-2
+unfolding interestWeight
+returns-2 c = simp (c .before .match .keys2) (c .qualifying-weight .ensures)
+
+returns-3 : tie.Need-returns-3
+unfolding interestWeight
+returns-3 c = simp (c .match .keys3)
+
+returns-4 : tie.Need-returns-4
+unfolding interestWeight
+returns-4 c =
+    let kind = c .before .args .row .kind in
+    simp (ne-eqb kind 1 (λ e. omega arith), ne-eqb kind 2 (λ e. omega arith), ne-eqb kind 3 (λ e. omega arith))
+
+pub interest-weight-spec : {M : Type 1} → statement M
+interest-weight-spec =
+    tie.close (tie.spec (λ c. search needs) returns returns-2 returns-3 returns-4)

@@ -1,0 +1,49 @@
+-- The bands of a row, by its days and, in interest, its coupon (document 01, Interest: bands and zones; The commodities ladder).
+use Prim.Native.Nat.{ℕ, suc}
+use mathlib.Core.Bool.{Bool, true, cond, _&&_}
+use mathlib.Core.List.{List, [], _∷_}
+use lib.Dec.{ltb, leb, eqb}
+use lib.ListN.{getD}
+use Rattle.book.specs.declared.Row.{Row}
+
+-- the first band whose last day is not below the days; past all last days, the band after them (document 01, Interest: bands and zones)
+unfoldable pub firstBand : ℕ → List ℕ → ℕ
+firstBand days [] = 0
+firstBand days (last ∷ column) = cond (ltb last days) (suc (firstBand days column)) 0
+
+-- each entry of a column is at most the next
+unfoldable pub ascending : List ℕ → Bool
+ascending [] = true
+ascending (last ∷ []) = true
+ascending (last ∷ (next ∷ column)) = leb last next && ascending (next ∷ column)
+
+-- the last days of the bands at a coupon of 300 or more; band 12 is over 7200 (document 01, Interest: bands and zones)
+abbrev pub highColumn : List ℕ
+highColumn = 30 ∷ 90 ∷ 180 ∷ 360 ∷ 720 ∷ 1080 ∷ 1440 ∷ 1800 ∷ 2520 ∷ 3600 ∷ 5400 ∷ 7200 ∷ []
+
+-- at a coupon below 300; band 14 is over 7200 (document 01, Interest: bands and zones)
+abbrev pub lowColumn : List ℕ
+lowColumn = 30 ∷ 90 ∷ 180 ∷ 360 ∷ 684 ∷ 1008 ∷ 1296 ∷ 1548 ∷ 2052 ∷ 2628 ∷ 3348 ∷ 3816 ∷ 4320 ∷ 7200 ∷ []
+
+-- the band of an interest row (document 01, Interest: bands and zones)
+unfoldable pub interestBand : Row → ℕ
+interestBand row = cond (ltb (row .coupon) 300) (firstBand (row .days) lowColumn) (firstBand (row .days) highColumn)
+
+-- the weights of the bands in basis points (document 01, Interest: bands and zones)
+abbrev pub weights : List ℕ
+weights = 0 ∷ 20 ∷ 40 ∷ 70 ∷ 125 ∷ 175 ∷ 225 ∷ 275 ∷ 325 ∷ 375 ∷ 450 ∷ 525 ∷ 600 ∷ 800 ∷ 1250 ∷ []
+
+unfoldable pub weightOf : ℕ → ℕ
+weightOf band = getD weights band 0
+
+-- the last days of a commodity's bands; band 6 is over 1080 (document 01, The commodities ladder)
+abbrev pub commodityColumn : List ℕ
+commodityColumn = 30 ∷ 90 ∷ 180 ∷ 360 ∷ 720 ∷ 1080 ∷ []
+
+-- the band of a commodity row (document 01, The commodities ladder)
+unfoldable pub commodityBand : Row → ℕ
+commodityBand row = firstBand (row .days) commodityColumn
+
+-- the band of a row of a class: equity and foreign exchange have no bands
+unfoldable pub bandIn : ℕ → Row → ℕ
+bandIn class row = cond (eqb class 1) (interestBand row) (cond (eqb class 4) (commodityBand row) 0)

@@ -1,0 +1,6 @@
+-- What a book costs: bands and weights, the six charges over lists of rows, and the report and the ladders of any bytes.
+pub mod Bands
+pub mod Weights
+pub mod Charges
+pub mod Tables
+pub mod Report

@@ -1,0 +1,46 @@
+-- The sums of a class's rows as the code keeps them: a table of longs and one of shorts, fifteen slots to a group.
+use Prim.Native.Nat.{ℕ, _+_, _*_, _<_, _≤_}
+use mathlib.Core.Path.{_≡_}
+use mathlib.Core.List.{List}
+use lib.ListN.{length, getD, replicate}
+use Rattle.book.specs.declared.Row.{Row}
+use Rattle.book.specs.Rows.{rowsIn, decode}
+use Rattle.book.specs.Refusals.{mostRows}
+use Rattle.book.specs.Accepted.{Every, Clean}
+use Rattle.ladder.specs.Sides.{Bands}
+use Rattle.ladder.specs.Rows.{sumOf, tally}
+use Rattle.ladder.specs.Books.{weighted}
+use Rattle.charges.specs.Bands.{weightOf, bandIn}
+use Rattle.charges.specs.Charges.{specificOf}
+pub use Rattle.charges.specs.declared.sums.Sums.{Sums}
+
+-- the slot of a row's group and band
+unfoldable pub slotIn : ℕ → Row → ℕ
+slotIn class row = 15 * row .group + bandIn class row
+
+-- the sums of some rows of a class: longs and shorts by slot, and the specific charge
+pub record SumsOf (class : ℕ) (rows : List Row) (sums : Sums) : Type 0 where
+  pub longs : sums .longs ≡ tally (slotIn class) (λ row. row .long) (replicate 480 0) rows
+  pub shorts : sums .shorts ≡ tally (slotIn class) (λ row. row .short) (replicate 480 0) rows
+  pub specific : sums .specific ≡ sumOf (specificOf class) rows
+
+-- the bands of a group as they stand in the tables
+abbrev pub tableBands : List ℕ → List ℕ → ℕ → Bands
+tableBands longs shorts group = λ k. record { long = getD longs (15 * group + k) 0; short = getD shorts (15 * group + k) 0 }
+
+-- the weighted bands of a currency
+abbrev pub weightedBands : List ℕ → List ℕ → ℕ → Bands
+weightedBands longs shorts group = weighted weightOf (tableBands longs shorts group)
+
+-- the groups of a class without bands
+abbrev pub tableGroups : List ℕ → List ℕ → Bands
+tableGroups longs shorts = λ group. record { long = getD longs (15 * group) 0; short = getD shorts (15 * group) 0 }
+
+-- an array whose entries below n are given
+pub record Reads (n : ℕ) (f : ℕ → ℕ) (out : List ℕ) : Type 0 where
+  pub below : (k : ℕ) → k < n → getD out k 0 ≡ f k
+
+-- a part whose rows are clean and at most 4,000
+pub record Handed (class : ℕ) (part : List ℕ) : Type 0 where
+  pub clean : Every (λ bytes. Clean class (decode bytes)) (rowsIn part)
+  pub few : length (rowsIn part) ≤ mostRows

@@ -1,0 +1,82 @@
+// The charges of each class, from its part of the book.
+use crate::Risk;
+use crate::general;
+use crate::sums;
+use ladder::CommodityFigures;
+use ladder::InterestFigures;
+ghost use mathlib.Core.Path.{_≡_};
+ghost use mathlib.Core.List.{map};
+ghost use Prim.Native.Nat.{_≤_};
+ghost use Rattle.book.specs.Rows.{rowsIn, decode};
+ghost use Rattle.book.specs.Refusals.{lastGroup};
+ghost use Rattle.charges.specs.Charges.{interestRisk, equityRisk, exchangeGeneral, commodityGeneral};
+ghost use Rattle.charges.specs.Tables.{Handed};
+ghost use Rattle.charges.specs.Charges.{interestFiguresOf, commodityFiguresOf};
+
+pub fn interest_risk(part: &[u8]) -> Risk
+    requires { ⌜ Handed 1 (now part) ⌝ }
+    ensures { λ r. ⌜ r ≡ interestRisk (map decode (rowsIn (now (part .entry)))) ⌝ }
+{
+    let sums = sums::sums_of(part, 1);
+    let longs = sums.longs;
+    let shorts = sums.shorts;
+    Risk {
+        specific: sums.specific,
+        general: general::interest_general(&longs, &shorts),
+    }
+}
+
+pub fn equity_risk(part: &[u8]) -> Risk
+    requires { ⌜ Handed 2 (now part) ⌝ }
+    ensures { λ r. ⌜ r ≡ equityRisk (map decode (rowsIn (now (part .entry)))) ⌝ }
+{
+    let sums = sums::sums_of(part, 2);
+    let longs = sums.longs;
+    let shorts = sums.shorts;
+    Risk {
+        specific: sums.specific,
+        general: general::equity_general(&longs, &shorts),
+    }
+}
+
+pub fn exchange_charge(part: &[u8]) -> u64
+    requires { ⌜ Handed 3 (now part) ⌝ }
+    ensures { λ r. ⌜ r ≡ exchangeGeneral (map decode (rowsIn (now (part .entry)))) ⌝ }
+{
+    let sums = sums::sums_of(part, 3);
+    let longs = sums.longs;
+    let shorts = sums.shorts;
+    general::exchange_general(&longs, &shorts)
+}
+
+pub fn commodity_charge(part: &[u8]) -> u64
+    requires { ⌜ Handed 4 (now part) ⌝ }
+    ensures { λ r. ⌜ r ≡ commodityGeneral (map decode (rowsIn (now (part .entry)))) ⌝ }
+{
+    let sums = sums::sums_of(part, 4);
+    let longs = sums.longs;
+    let shorts = sums.shorts;
+    general::commodity_general(&longs, &shorts)
+}
+
+// The ladder of one currency.
+pub fn interest_figures(part: &[u8], group: usize) -> InterestFigures
+    requires { ⌜ Handed 1 (now part) × (group ≤ lastGroup) ⌝ }
+    ensures { λ r. ⌜ r ≡ interestFiguresOf group (map decode (rowsIn (now (part .entry)))) ⌝ }
+{
+    let sums = sums::sums_of(part, 1);
+    let longs = sums.longs;
+    let shorts = sums.shorts;
+    general::interest_figures(&longs, &shorts, group)
+}
+
+// The ladder of one commodity.
+pub fn commodity_figures(part: &[u8], group: usize) -> CommodityFigures
+    requires { ⌜ Handed 4 (now part) × (group ≤ lastGroup) ⌝ }
+    ensures { λ r. ⌜ r ≡ commodityFiguresOf group (map decode (rowsIn (now (part .entry)))) ⌝ }
+{
+    let sums = sums::sums_of(part, 4);
+    let longs = sums.longs;
+    let shorts = sums.shorts;
+    general::commodity_figures(&longs, &shorts, group)
+}

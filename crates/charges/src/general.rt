@@ -1,0 +1,99 @@
+// The general charges, from the tables of sums.
+use crate::tables;
+use ladder::CommodityFigures;
+use ladder::InterestFigures;
+use ladder::Percents;
+ghost use mathlib.Core.Path.{_≡_};
+ghost use Prim.Native.Nat.{_*_, _<_, _≤_};
+ghost use Rattle.ladder.specs.Sides.{limit, gross, span, total};
+ghost use Rattle.ladder.specs.Interest.{percents, interestFigures};
+ghost use Rattle.ladder.specs.Commodity.{commodityLimit, commodityFigures};
+ghost use Rattle.ladder.specs.Nets.{groups, absoluteNets, shorthand};
+ghost use Rattle.ladder.specs.Rows.{sumOf};
+ghost use Rattle.charges.specs.Charges.{eightPerCent};
+ghost use Rattle.charges.specs.Tables.{tableBands, weightedBands, tableGroups};
+
+// Currencies, and commodities.
+const GROUPS: usize = 32;
+
+// The paper's per cents.
+fn percents() -> Percents
+    ensures { λ r. ⌜ r ≡ percents ⌝ }
+{
+    Percents {
+        vertical: 10,
+        zone1: 40,
+        zone2: 30,
+        zone3: 30,
+        adjacent: 40,
+        apart: 100,
+    }
+}
+
+// The interest ladder of a currency.
+pub fn interest_figures(longs: &[u64; 480], shorts: &[u64; 480], group: usize) -> InterestFigures
+    requires { ⌜ (group < 32) × (gross (total (weightedBands (now longs) (now shorts) group) (span 0 15)) ≤ limit) ⌝ }
+    ensures { λ r. ⌜ r ≡ interestFigures percents (weightedBands (now (longs .entry)) (now (shorts .entry)) group) ⌝ }
+{
+    let weighted_longs = tables::weighted_bands(longs, group);
+    let weighted_shorts = tables::weighted_bands(shorts, group);
+    ladder::interest(&weighted_longs, &weighted_shorts, percents())
+}
+
+// The interest ladders of all currencies.
+pub fn interest_general(longs: &[u64; 480], shorts: &[u64; 480]) -> u64
+    requires { ⌜ sumOf (λ group. gross (total (weightedBands (now longs) (now shorts) group) (span 0 15))) groups ≤ limit ⌝ }
+    ensures { λ r. ⌜ r ≡ sumOf (λ group. interestFigures percents (weightedBands (now (longs .entry)) (now (shorts .entry)) group) .charge) groups ⌝ }
+{
+    let mut charge: u64 = 0;
+    let mut group: usize = 0;
+    while group < GROUPS {
+        charge += interest_figures(longs, shorts, group).charge;
+        group += 1;
+    }
+    charge
+}
+
+// The ladder of a commodity.
+pub fn commodity_figures(longs: &[u64; 480], shorts: &[u64; 480], group: usize) -> CommodityFigures
+    requires { ⌜ (group < 32) × (gross (total (tableBands (now longs) (now shorts) group) (span 0 7)) ≤ commodityLimit) ⌝ }
+    ensures { λ r. ⌜ r ≡ commodityFigures (tableBands (now (longs .entry)) (now (shorts .entry)) group) ⌝ }
+{
+    let commodity_longs = tables::commodity_bands(longs, group);
+    let commodity_shorts = tables::commodity_bands(shorts, group);
+    ladder::commodity(&commodity_longs, &commodity_shorts)
+}
+
+// The ladders of all commodities.
+pub fn commodity_general(longs: &[u64; 480], shorts: &[u64; 480]) -> u64
+    requires { ⌜ sumOf (λ group. gross (total (tableBands (now longs) (now shorts) group) (span 0 7))) groups ≤ commodityLimit ⌝ }
+    ensures { λ r. ⌜ r ≡ sumOf (λ group. commodityFigures (tableBands (now (longs .entry)) (now (shorts .entry)) group) .charge) groups ⌝ }
+{
+    let mut charge: u64 = 0;
+    let mut group: usize = 0;
+    while group < GROUPS {
+        charge += commodity_figures(longs, shorts, group).charge;
+        group += 1;
+    }
+    charge
+}
+
+// 8% of the absolute nets of the markets.
+pub fn equity_general(longs: &[u64; 480], shorts: &[u64; 480]) -> u64
+    requires { ⌜ gross (total (tableGroups (now longs) (now shorts)) groups) ≤ commodityLimit ⌝ }
+    ensures { λ r. ⌜ r ≡ eightPerCent * absoluteNets (tableGroups (now (longs .entry)) (now (shorts .entry))) ⌝ }
+{
+    let group_longs = tables::group_sums(longs);
+    let group_shorts = tables::group_sums(shorts);
+    80000 * ladder::absolute_nets(&group_longs, &group_shorts)
+}
+
+// 8% of the shorthand net of the currencies, with gold.
+pub fn exchange_general(longs: &[u64; 480], shorts: &[u64; 480]) -> u64
+    requires { ⌜ gross (total (tableGroups (now longs) (now shorts)) groups) ≤ commodityLimit ⌝ }
+    ensures { λ r. ⌜ r ≡ eightPerCent * shorthand (tableGroups (now (longs .entry)) (now (shorts .entry))) ⌝ }
+{
+    let group_longs = tables::group_sums(longs);
+    let group_shorts = tables::group_sums(shorts);
+    80000 * ladder::shorthand(&group_longs, &group_shorts)
+}

@@ -1,0 +1,60 @@
+// Specific weights, in basis points.
+use book::Row;
+ghost use mathlib.Core.Path.{_≡_};
+ghost use Rattle.charges.specs.Weights.{qualifyingWeight, interestWeight, equityWeight, specificWeight};
+ghost use Rattle.charges.specs.Charges.{specificOf};
+
+// Qualifying paper, by its days.
+fn qualifying_weight(days: u16) -> u64
+    ensures { λ r. ⌜ r ≡ qualifyingWeight days ⌝ }
+{
+    match days {
+        0..=180 => 25,
+        181..=720 => 100,
+        _ => 160,
+    }
+}
+
+// Government, qualifying and other paper.
+fn interest_weight(row: Row) -> u64
+    ensures { λ r. ⌜ r ≡ interestWeight row ⌝ }
+{
+    let kind = row.kind;
+    match kind {
+        1 => 0,
+        2 => qualifying_weight(row.days),
+        3 => 800,
+        _ => 0,
+    }
+}
+
+// Ordinary shares, liquid and well diversified portfolios, indices.
+fn equity_weight(row: Row) -> u64
+    ensures { λ r. ⌜ r ≡ equityWeight row ⌝ }
+{
+    let kind = row.kind;
+    match kind {
+        1 => 800,
+        2 => 400,
+        3 => 200,
+        _ => 0,
+    }
+}
+
+// The specific weight of a row of a class; foreign exchange and commodities bear none.
+fn specific_weight(class: usize, row: Row) -> u64
+    ensures { λ r. ⌜ r ≡ specificWeight class row ⌝ }
+{
+    match class {
+        1 => interest_weight(row),
+        2 => equity_weight(row),
+        _ => 0,
+    }
+}
+
+// The specific charge of a row of a class, in mils: 100 a basis point.
+pub fn specific_charge(class: usize, row: Row) -> u64
+    ensures { λ r. ⌜ r ≡ specificOf class row ⌝ }
+{
+    100 * (specific_weight(class, row) * ((row.long as u64) + (row.short as u64)))
+}
