@@ -1,0 +1,121 @@
+-- The six charges of rows put together, permuted, and mirrored.
+-- Assumes nothing.
+use Prim.Native.Nat.{ℕ, _+_, _*_, _≤_}
+use mathlib.Core.Path.{_≡_, refl, ap, _∙_, fun-ext}
+use mathlib.Core.List.{List, _++_, map, Perm, List·Memᴰ}
+use native.Mathlib.Nat.{add-comm}
+use native.Mathlib.Omega.{arith}
+use Rattle.book.specs.declared.Row.{Row}
+use Rattle.ladder.specs.Sides.{Bands}
+use Rattle.ladder.specs.Interest.{zones, percents, chargeOf}
+use Rattle.ladder.specs.Commodity.{commodityFigures}
+use Rattle.ladder.specs.Nets.{groups, currencies, absoluteNets, shorthand}
+use Rattle.ladder.specs.Rows.{sumOf}
+use Rattle.ladder.specs.Books.{Exchanges, TwoZones, weighing}
+use Rattle.ladder.proofs.AddsUp.{percents-accepted}
+use Rattle.ladder.proofs.Netting.{absolutes-joined, absolutes-mirrored, shorthand-joined, shorthand-mirrored}
+use Rattle.ladder.proofs.Sums.{sumOf-append, sumOf-plus, sumOf-permuted, sumOf-map}
+use Rattle.ladder.proofs.Books.{general-joined, commodity-joined, nets-joined, grouped-permuted, groupsOf-permuted, general-mirrored, commodity-mirrored, nets-mirrored}
+use Rattle.charges.specs.Bands.{weightOf, interestBand, commodityBand, bandIn}
+use Rattle.charges.specs.Weights.{interestWeight, equityWeight, specificWeight}
+use Rattle.charges.specs.Charges.{eightPerCent, reading, specificOf, specificIn, specificCharge, interestGeneral, equityGeneral, exchangeGeneral, commodityGeneral, interestRisk, equityRisk}
+
+-- ---- put together
+module _ (rows more : List Row) where
+  pub specific-joined : (class : ℕ) → specificCharge class (rows ++ more) ≡ specificCharge class rows + specificCharge class more
+  unfolding specificCharge specificIn
+  specific-joined class =
+      ap (λ (f : ℕ → ℕ). sumOf f groups) (fun-ext (λ g. sumOf-append _ rows more)) ∙ sumOf-plus _ _ groups
+
+  pub interest-joined : ((g : ℕ) → List·Memᴰ g groups → TwoZones (reading 1) zones g (rows ++ more)) → interestGeneral (rows ++ more) ≤ interestGeneral rows + interestGeneral more
+  unfolding interestGeneral
+  interest-joined two = general-joined (reading 1) weightOf percents percents-accepted zones groups rows more two
+
+  pub equity-joined : equityGeneral (rows ++ more) ≤ equityGeneral rows + equityGeneral more
+  unfolding equityGeneral
+  equity-joined = omega (arith, nets-joined (reading 2) absoluteNets (absolutes-joined groups) rows more)
+
+  pub exchange-joined : exchangeGeneral (rows ++ more) ≤ exchangeGeneral rows + exchangeGeneral more
+  unfolding exchangeGeneral
+  exchange-joined = omega (arith, nets-joined (reading 3) shorthand (shorthand-joined currencies) rows more)
+
+  pub commodities-joined : commodityGeneral (rows ++ more) ≤ commodityGeneral rows + commodityGeneral more
+  unfolding commodityGeneral
+  commodities-joined = commodity-joined (reading 4) groups rows more
+
+-- ---- permuted, and mirrored
+-- long and short of a row exchanged, and all else as it was
+abbrev pub mirroredLeg : Row → Row
+mirroredLeg row =
+    record { group = row .group; kind = row .kind; days = row .days; coupon = row .coupon; issue = row .issue; long = row .short; short = row .long }
+
+mirrored-exchanges : (class : ℕ) → Exchanges (reading class) mirroredLeg
+unfolding bandIn interestBand commodityBand
+mirrored-exchanges class =
+    record { same-group = λ row. refl; same-band = λ row. refl; to-long = λ row. refl; to-short = λ row. refl }
+
+-- what neither an order nor a mirror changes
+pub record Invariant {A : Type 0} (cost : List Row → A) : Type 0 where
+  pub permuted : {rows rows′ : List Row} → Perm rows rows′ → cost rows ≡ cost rows′
+  pub mirrored : (rows : List Row) → cost (map mirroredLeg rows) ≡ cost rows
+
+specific-mirrored : (class : ℕ) (row : Row) → specificOf class (mirroredLeg row) ≡ specificOf class row
+unfolding specificOf specificWeight interestWeight equityWeight
+specific-mirrored class row = rw (add-comm (row .short) (row .long))
+
+specific-invariant : (class : ℕ) → Invariant (specificCharge class)
+unfolding specificCharge specificIn
+specific-invariant class =
+    record {
+      permuted = λ p. ap (λ (f : ℕ → ℕ). sumOf f groups) (fun-ext (λ g. sumOf-permuted _ p));
+      mirrored = λ rows. ap (λ (f : ℕ → ℕ). sumOf f groups) (fun-ext (λ g. sumOf-map _ mirroredLeg rows ∙ simp (specific-mirrored class)));
+    }
+
+interest-invariant : Invariant interestGeneral
+unfolding interestGeneral
+interest-invariant =
+    record {
+      permuted = grouped-permuted (weighing weightOf (reading 1)) (chargeOf percents zones) groups;
+      mirrored = general-mirrored (reading 1) weightOf percents zones groups mirroredLeg (mirrored-exchanges 1);
+    }
+
+equity-invariant : Invariant equityGeneral
+unfolding equityGeneral
+equity-invariant =
+    record {
+      permuted = λ p. ap (λ (f : Bands). eightPerCent * absoluteNets f) (groupsOf-permuted (reading 2) p);
+      mirrored = λ rows. ap (λ (n : ℕ). eightPerCent * n) (nets-mirrored (reading 2) absoluteNets (absolutes-mirrored groups) mirroredLeg (mirrored-exchanges 2) rows);
+    }
+
+pub exchange-invariant : Invariant exchangeGeneral
+unfolding exchangeGeneral
+exchange-invariant =
+    record {
+      permuted = λ p. ap (λ (f : Bands). eightPerCent * shorthand f) (groupsOf-permuted (reading 3) p);
+      mirrored = λ rows. ap (λ (n : ℕ). eightPerCent * n) (nets-mirrored (reading 3) shorthand (shorthand-mirrored currencies) mirroredLeg (mirrored-exchanges 3) rows);
+    }
+
+pub commodity-invariant : Invariant commodityGeneral
+unfolding commodityGeneral
+commodity-invariant =
+    record {
+      permuted = grouped-permuted (reading 4) (λ f. (commodityFigures f) .charge) groups;
+      mirrored = commodity-mirrored (reading 4) groups mirroredLeg (mirrored-exchanges 4);
+    }
+
+-- both parts of a class's charge
+pub interest-risk-invariant : Invariant interestRisk
+unfolding interestRisk
+interest-risk-invariant =
+    record {
+      permuted = λ p. rw (specific-invariant 1 .permuted p, interest-invariant .permuted p);
+      mirrored = λ rows. rw (specific-invariant 1 .mirrored rows, interest-invariant .mirrored rows);
+    }
+
+pub equity-risk-invariant : Invariant equityRisk
+unfolding equityRisk
+equity-risk-invariant =
+    record {
+      permuted = λ p. rw (specific-invariant 2 .permuted p, equity-invariant .permuted p);
+      mirrored = λ rows. rw (specific-invariant 2 .mirrored rows, equity-invariant .mirrored rows);
+    }

@@ -1,0 +1,64 @@
+-- Pieces of a file one for each class: what is left of them from a class on, and a loop that writes them one after the other.
+-- Assumes nothing.
+use mathlib.Core.Path.{_≡_, refl, sym, ap, _∙_}
+use mathlib.Core.List.{List, _++_, flatMap}
+use Prim.Native.Nat.{ℕ, zero, suc, _+_, _-_, _≤_, _<_}
+use native.Mathlib.Omega.{arith}
+use lib.ListN.{length, drop, length-append}
+use Rattle.book.specs.Counts.{classes}
+use Rattle.join.specs.Written.{written}
+use Rattle.join.proofs.Writing.{written-length, written-after, written-nothing}
+
+-- the pieces of a class and of those after it
+unfoldable pub left : (ℕ → List ℕ) → ℕ → List ℕ
+left piece class = flatMap piece (drop (class - 1) classes)
+
+pub left-next : (piece : ℕ → List ℕ) (class : ℕ) → 1 ≤ class → class ≤ 4 → left piece class ≡ piece class ++ left piece (class + 1)
+unfolding left flatMap
+left-next piece zero low high = let never : ⊥ = omega arith in absurd never
+left-next piece (suc zero) low high = refl
+left-next piece (suc (suc zero)) low high = refl
+left-next piece (suc (suc (suc zero))) low high = refl
+left-next piece (suc (suc (suc (suc zero)))) low high = refl
+left-next piece (suc (suc (suc (suc (suc n))))) low high = let never : ⊥ = omega arith in absurd never
+
+-- the pieces before a class are written from start to at, and writing what is left makes the whole
+pub record Writes (piece : ℕ → List ℕ) (out₀ : List ℕ) (start : ℕ) (out : List ℕ) (at class : ℕ) : Type 0 where
+  pub low : 1 ≤ class
+  pub high : class ≤ 5
+  pub same : length out ≡ length out₀
+  pub room : at + length (left piece class) ≤ length out
+  pub whole : written out at (left piece class) ≡ written out₀ start (flatMap piece classes)
+
+module _ (piece : ℕ → List ℕ) (out₀ : List ℕ) (start : ℕ) where
+  pub begins : start + length (flatMap piece classes) ≤ length out₀ → Writes piece out₀ start out₀ start 1
+  unfolding left
+  begins h = record { low = omega arith; high = omega arith; same = refl; room = h; whole = refl }
+
+  module _ (out : List ℕ) (at class : ℕ) (now : Writes piece out₀ start out at class) where
+    -- the piece of a class has room
+    pub piece-room : class ≤ 4 → at + length (piece class) + length (left piece (class + 1)) ≤ length out
+    piece-room h =
+        let size = simp length-append at (ap length (left-next piece class (now .low) h)) in
+        omega (arith, now .room)
+
+    pub writes-next : class ≤ 4 → (out′ : List ℕ) (at′ : ℕ) → out′ ≡ written out at (piece class) → at′ ≡ at + length (piece class) → Writes piece out₀ start out′ at′ (class + 1)
+    writes-next h out′ at′ e place =
+        let fits = piece-room h in
+        let same : length out′ ≡ length out = ap length e ∙ written-length out (piece class) at (omega arith) in
+        record {
+          low = omega arith;
+          high = omega arith;
+          same = same ∙ now .same;
+          room = omega arith;
+          whole =
+              rw (e, place) (written-after out (piece class) (left piece (class + 1)) at fits)
+              ∙ ap (written out at) (sym (left-next piece class (now .low) h))
+              ∙ now .whole;
+        }
+
+    pub all-written : 4 < class → out ≡ written out₀ start (flatMap piece classes)
+    unfolding left flatMap
+    all-written h =
+        let last : class ≡ 5 = omega (arith, now .high) in
+        sym (written-nothing out at) ∙ rw last at (now .whole)

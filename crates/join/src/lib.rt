@@ -1,0 +1,60 @@
+// Joins two books into an output that the caller lends.
+mod bodies;
+mod contents;
+
+use book::Refusal;
+ghost use mathlib.Core.Path.{_≡_};
+ghost use lib.ListN.{length as len};
+ghost use Rattle.join.specs.Joined.{settled, joinedOf, joinOutput};
+
+const MOST_ROWS: usize = 4000;
+
+// Why a join is refused, all zero where it is not, and the joined length, 0 where it is refused.
+pub struct Joined {
+    pub refusal: Refusal,
+    pub length: usize,
+}
+
+// Writes the joined book at the start of out; bytes past it keep their values, and all do where the join is refused.
+pub fn join(a: &[u8], b: &[u8], out: &mut [u8]) -> Joined
+    ensures { λ r. ⌜ (r ≡ joinedOf (now (a .entry)) (now (b .entry)) (len (now (out .entry)))) × (now (out .exit) ≡ joinOutput (now (a .entry)) (now (b .entry)) (now (out .entry))) ⌝ }
+{
+    let first = book::read(a);
+    let second = book::read(b);
+    let counts = contents::add(first.counts, second.counts);
+    let rows = counts.rows();
+    let length = 8 + 16 * rows;
+    let refusal = settle(first.refusal, second.refusal, rows, length, out.len());
+    if refusal.number != 0 {
+        return Joined { refusal, length: 0 };
+    }
+    contents::write_contents(counts, out);
+    bodies::write_bodies(a, first, b, second, out);
+    Joined { refusal, length }
+}
+
+// A's refusal, then B's, then 11, then 12, by the joined rows, the joined length and the room; all zero where none applies.
+fn settle(first: Refusal, second: Refusal, rows: usize, length: usize, room: usize) -> Refusal
+    ensures { λ r. ⌜ r ≡ settled first second rows length room ⌝ }
+{
+    if first.number != 0 {
+        return refused(first.number, first.row, 0);
+    }
+    if second.number != 0 {
+        return refused(second.number, second.row, 1);
+    }
+    if MOST_ROWS < rows {
+        return refused(11, 0, 0);
+    }
+    if room < length {
+        return refused(12, 0, 0);
+    }
+    refused(0, 0, 0)
+}
+
+// A refusal of a book, 0 for A and 1 for B, at a row.
+fn refused(number: u8, row: u16, book: u8) -> Refusal
+    ensures { λ r. ⌜ r ≡ record { number = number; row = row; book = book } ⌝ }
+{
+    Refusal { number, row, book }
+}
