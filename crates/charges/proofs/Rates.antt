@@ -11,11 +11,11 @@ use lib.Dec.{leb}
 use borrow.Author.Tests.{leb-true}
 use Rattle.book.specs.declared.Row.{Row}
 use Rattle.book.specs.Accepted.{Every, none, also, Clean}
-use Rattle.ladder.specs.Sides.{span, gross, total}
+use Rattle.ladder.specs.Sides.{Bands, span, gross, total}
 use Rattle.ladder.specs.Interest.{percents}
 use Rattle.ladder.specs.Nets.{groups, currencies}
 use Rattle.ladder.specs.Rows.{sumOf, sumAt}
-use Rattle.ladder.specs.Books.{groupsOf, amountOf, weighing}
+use Rattle.ladder.specs.Books.{groupsOf, amountOf, weighing, weighted}
 use Rattle.ladder.proofs.AddsUp.{percents-accepted}
 use Rattle.ladder.proofs.Sums.{sumOf-plus, sumOf≤, sumOf-times, sumOf-bounded, slot, slot-within}
 use Rattle.ladder.proofs.Netting.{absolutes-within, shorthand-within}
@@ -83,3 +83,10 @@ specific-total class (also {a} {rest} clean later) =
       slot-within (a .group) (specificOf class a) 0 32 (omega arith) (omega (arith, clean .group)),
       specific-total class later,
     )
+
+-- weighted bands hold at most 1,250 times what the bands hold
+pub weighted-gross : (f : Bands) (list : List ℕ) → gross (total (weighted weightOf f) list) ≤ 1250 * gross (total f list)
+unfolding total
+weighted-gross f [] = omega arith
+weighted-gross f (k ∷ list) =
+    omega (arith, weighted-gross f list, mul-le-mul-right ((f k) .long) (weight-most k), mul-le-mul-right ((f k) .short) (weight-most k))

@@ -18,7 +18,7 @@ use Rattle.ladder.proofs.Agreeing.{Agree}
 use borrow.Author.Tests.{eq-eqb, ne-eqb}
 use Rattle.charges.specs.Bands.{firstBand, highColumn, lowColumn, commodityColumn, interestBand, commodityBand, bandIn}
 use Rattle.charges.specs.Charges.{reading}
-use Rattle.charges.specs.Tables.{Sums, SumsOf, slotIn, tableBands, tableGroups}
+use Rattle.charges.specs.Tables.{SumsOf, slotIn, tableBands, tableGroups}
 
 -- ---- a class has at most fifteen bands
 first-within : (days : ℕ) (column : List ℕ) → firstBand days column ≤ length column
@@ -68,18 +68,18 @@ module _ (class : ℕ) (rows : List Row) where
       ∙ slot-sum amount g 0 h (omega arith)
       ∙ ap (λ (f : Row → ℕ). sumOf f rows) (fun-ext (λ row. simp (flat row)))
 
-  module _ (sums : Sums) (of : SumsOf class rows sums) where
-    pub bands-agree : (g : ℕ) → g < 32 → Agree 15 (tableBands (sums .longs) (sums .shorts) g) (ladderOf (reading class) g rows)
+  module _ (longs shorts : List ℕ) (specific : ℕ) (of : SumsOf class rows longs shorts specific) where
+    pub bands-agree : (g : ℕ) → g < 32 → Agree 15 (tableBands longs shorts g) (ladderOf (reading class) g rows)
     bands-agree g h =
         record {
-          below = λ k h′. same-sides (rw (of .longs) (slot-sum (λ row. row .long) g k h h′)) (rw (of .shorts) (slot-sum (λ row. row .short) g k h h′));
+          below = λ k h′. same-sides (rw (of .is-longs) (slot-sum (λ row. row .long) g k h h′)) (rw (of .is-shorts) (slot-sum (λ row. row .short) g k h h′));
         }
 
     -- without bands a group has one slot
-    pub groups-agree : ((row : Row) → bandIn class row ≡ 0) → Agree 32 (tableGroups (sums .longs) (sums .shorts)) (groupsOf (reading class) rows)
+    pub groups-agree : ((row : Row) → bandIn class row ≡ 0) → Agree 32 (tableGroups longs shorts) (groupsOf (reading class) rows)
     groups-agree flat =
         record {
-          below = λ g h. same-sides (rw (of .longs) (group-sum flat (λ row. row .long) g h)) (rw (of .shorts) (group-sum flat (λ row. row .short) g h));
+          below = λ g h. same-sides (rw (of .is-longs) (group-sum flat (λ row. row .long) g h)) (rw (of .is-shorts) (group-sum flat (λ row. row .short) g h));
         }
 
 -- the classes without bands

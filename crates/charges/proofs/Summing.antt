@@ -42,6 +42,10 @@ summed-none f n = record { reached = omega arith; is-sum = refl }
 pub summed-next : (f : ℕ → ℕ) (n sum g one : ℕ) → Summed f n sum g → g < n → one ≡ f g → Summed f n (sum + one) (g + 1)
 summed-next f n sum g one before h is = record { reached = omega arith; is-sum = omega (arith, before .is-sum, sum-next f g) }
 
+-- one that is nothing may be passed over
+pub summed-over : (f : ℕ → ℕ) (n sum g : ℕ) → Summed f n sum g → g < n → f g ≡ 0 → Summed f n sum (g + 1)
+summed-over f n sum g before h none = record { reached = omega arith; is-sum = omega (arith, before .is-sum, sum-next f g) }
+
 pub summed-all : (f : ℕ → ℕ) (n sum g : ℕ) → Summed f n sum g → n ≤ g → sum ≡ sumOf f (span 0 n)
 summed-all f n sum g all done =
     let end : g ≡ n = omega (arith, all .reached) in
@@ -69,6 +73,11 @@ gross-sum f (k ∷ list) = omega (arith, gross-sum f list)
 -- each band is within the whole
 pub band-within : (f : Bands) (n k : ℕ) → k < n → gross (f k) ≤ gross (total f (span 0 n))
 band-within f n k h = omega (arith, gross-sum f (span 0 n), sum-room (λ j. gross (f j)) k n h)
+
+-- fewer bands hold no more
+pub fewer-within : (f : Bands) (n more : ℕ) → gross (total f (span 0 n)) ≤ gross (total f (span 0 (n + more)))
+fewer-within f n more =
+    omega (arith, gross-sum f (span 0 n), gross-sum f (span 0 (n + more)), sum-grows (λ k. gross (f k)) n more)
 
 -- two arrays that were read out of tables
 pub arrays-agree : (n : ℕ) (f g : ℕ → ℕ) (longs shorts : List ℕ) → Reads n f longs → Reads n g shorts → Agree n (bands longs shorts) (λ k. record { long = f k; short = g k })

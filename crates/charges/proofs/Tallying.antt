@@ -69,7 +69,7 @@ module _ (class : ℕ) (rows : List Row) (i : ℕ) (row : Row) (within : i < len
 
 -- after the last row the tables hold the sums of all
 pub all-taken : (class : ℕ) (rows : List Row) (i : ℕ) (longs shorts : List ℕ) (specific : ℕ) → Taken class rows i longs shorts specific → length rows ≤ i
-    → SumsOf class rows (record { longs = longs; shorts = shorts; specific = specific })
+    → SumsOf class rows longs shorts specific
 all-taken class rows i longs shorts specific taken done =
     let all = take-all i rows done in
-    record { longs = taken .is-longs ∙ rw all; shorts = taken .is-shorts ∙ rw all; specific = taken .is-specific ∙ rw all }
+    record { is-longs = taken .is-longs ∙ rw all; is-shorts = taken .is-shorts ∙ rw all; is-specific = taken .is-specific ∙ rw all }

@@ -5,28 +5,35 @@ use mathlib.Core.List.{List}
 use lib.ListN.{length, getD, replicate}
 use Rattle.book.specs.declared.Row.{Row}
 use Rattle.book.specs.Rows.{rowsIn, decode}
-use Rattle.book.specs.Refusals.{mostRows}
+use Rattle.book.specs.Refusals.{mostRows, mostAmount}
 use Rattle.book.specs.Accepted.{Every, Clean}
-use Rattle.ladder.specs.Sides.{Bands}
+use Rattle.ladder.specs.Sides.{Bands, gross, span, total}
 use Rattle.ladder.specs.Rows.{sumOf, tally}
 use Rattle.ladder.specs.Books.{weighted}
 use Rattle.charges.specs.Bands.{weightOf, bandIn}
 use Rattle.charges.specs.Charges.{specificOf}
-pub use Rattle.charges.specs.declared.sums.Sums.{Sums}
 
 -- the slot of a row's group and band
 unfoldable pub slotIn : ℕ → Row → ℕ
 slotIn class row = 15 * row .group + bandIn class row
 
 -- the sums of some rows of a class: longs and shorts by slot, and the specific charge
-pub record SumsOf (class : ℕ) (rows : List Row) (sums : Sums) : Type 0 where
-  pub longs : sums .longs ≡ tally (slotIn class) (λ row. row .long) (replicate 480 0) rows
-  pub shorts : sums .shorts ≡ tally (slotIn class) (λ row. row .short) (replicate 480 0) rows
-  pub specific : sums .specific ≡ sumOf (specificOf class) rows
+pub record SumsOf (class : ℕ) (rows : List Row) (longs shorts : List ℕ) (specific : ℕ) : Type 0 where
+  pub is-longs : longs ≡ tally (slotIn class) (λ row. row .long) (replicate 480 0) rows
+  pub is-shorts : shorts ≡ tally (slotIn class) (λ row. row .short) (replicate 480 0) rows
+  pub is-specific : specific ≡ sumOf (specificOf class) rows
 
 -- the bands of a group as they stand in the tables
 abbrev pub tableBands : List ℕ → List ℕ → ℕ → Bands
 tableBands longs shorts group = λ k. record { long = getD longs (15 * group + k) 0; short = getD shorts (15 * group + k) 0 }
+
+-- what a group's bands hold on both sides
+abbrev pub tableGross : List ℕ → List ℕ → ℕ → ℕ
+tableGross longs shorts group = gross (total (tableBands longs shorts group) (span 0 15))
+
+-- no class's gross is above this: 4,000 rows of the largest amount
+abbrev pub mostGross : ℕ
+mostGross = mostAmount * mostRows
 
 -- the weighted bands of a currency
 abbrev pub weightedBands : List ℕ → List ℕ → ℕ → Bands

@@ -17,11 +17,11 @@ pub fn interest_risk(part: &[u8]) -> Risk
     requires { ⌜ Handed 1 (now part) ⌝ }
     ensures { λ r. ⌜ r ≡ interestRisk (map decode (rowsIn (now (part .entry)))) ⌝ }
 {
-    let sums = sums::sums_of(part, 1);
-    let longs = sums.longs;
-    let shorts = sums.shorts;
+    let mut longs = [0u64; 480];
+    let mut shorts = [0u64; 480];
+    let specific = sums::tally(part, 1, &mut longs, &mut shorts);
     Risk {
-        specific: sums.specific,
+        specific,
         general: general::interest_general(&longs, &shorts),
     }
 }
@@ -30,11 +30,11 @@ pub fn equity_risk(part: &[u8]) -> Risk
     requires { ⌜ Handed 2 (now part) ⌝ }
     ensures { λ r. ⌜ r ≡ equityRisk (map decode (rowsIn (now (part .entry)))) ⌝ }
 {
-    let sums = sums::sums_of(part, 2);
-    let longs = sums.longs;
-    let shorts = sums.shorts;
+    let mut longs = [0u64; 480];
+    let mut shorts = [0u64; 480];
+    let specific = sums::tally(part, 2, &mut longs, &mut shorts);
     Risk {
-        specific: sums.specific,
+        specific,
         general: general::equity_general(&longs, &shorts),
     }
 }
@@ -43,9 +43,9 @@ pub fn exchange_charge(part: &[u8]) -> u64
     requires { ⌜ Handed 3 (now part) ⌝ }
     ensures { λ r. ⌜ r ≡ exchangeGeneral (map decode (rowsIn (now (part .entry)))) ⌝ }
 {
-    let sums = sums::sums_of(part, 3);
-    let longs = sums.longs;
-    let shorts = sums.shorts;
+    let mut longs = [0u64; 480];
+    let mut shorts = [0u64; 480];
+    sums::tally(part, 3, &mut longs, &mut shorts);
     general::exchange_general(&longs, &shorts)
 }
 
@@ -53,9 +53,9 @@ pub fn commodity_charge(part: &[u8]) -> u64
     requires { ⌜ Handed 4 (now part) ⌝ }
     ensures { λ r. ⌜ r ≡ commodityGeneral (map decode (rowsIn (now (part .entry)))) ⌝ }
 {
-    let sums = sums::sums_of(part, 4);
-    let longs = sums.longs;
-    let shorts = sums.shorts;
+    let mut longs = [0u64; 480];
+    let mut shorts = [0u64; 480];
+    sums::tally(part, 4, &mut longs, &mut shorts);
     general::commodity_general(&longs, &shorts)
 }
 
@@ -64,9 +64,9 @@ pub fn interest_figures(part: &[u8], group: usize) -> InterestFigures
     requires { ⌜ Handed 1 (now part) × (group ≤ lastGroup) ⌝ }
     ensures { λ r. ⌜ r ≡ interestFiguresOf group (map decode (rowsIn (now (part .entry)))) ⌝ }
 {
-    let sums = sums::sums_of(part, 1);
-    let longs = sums.longs;
-    let shorts = sums.shorts;
+    let mut longs = [0u64; 480];
+    let mut shorts = [0u64; 480];
+    sums::tally(part, 1, &mut longs, &mut shorts);
     general::interest_figures(&longs, &shorts, group)
 }
 
@@ -75,8 +75,8 @@ pub fn commodity_figures(part: &[u8], group: usize) -> CommodityFigures
     requires { ⌜ Handed 4 (now part) × (group ≤ lastGroup) ⌝ }
     ensures { λ r. ⌜ r ≡ commodityFiguresOf group (map decode (rowsIn (now (part .entry)))) ⌝ }
 {
-    let sums = sums::sums_of(part, 4);
-    let longs = sums.longs;
-    let shorts = sums.shorts;
+    let mut longs = [0u64; 480];
+    let mut shorts = [0u64; 480];
+    sums::tally(part, 4, &mut longs, &mut shorts);
     general::commodity_figures(&longs, &shorts, group)
 }

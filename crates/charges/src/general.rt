@@ -5,13 +5,13 @@ use ladder::InterestFigures;
 use ladder::Percents;
 ghost use mathlib.Core.Path.{_≡_};
 ghost use Prim.Native.Nat.{_*_, _<_, _≤_};
-ghost use Rattle.ladder.specs.Sides.{limit, gross, span, total};
+ghost use Rattle.ladder.specs.Sides.{gross, total};
 ghost use Rattle.ladder.specs.Interest.{percents, interestFigures};
-ghost use Rattle.ladder.specs.Commodity.{commodityLimit, commodityFigures};
+ghost use Rattle.ladder.specs.Commodity.{commodityFigures};
 ghost use Rattle.ladder.specs.Nets.{groups, absoluteNets, shorthand};
 ghost use Rattle.ladder.specs.Rows.{sumOf};
 ghost use Rattle.charges.specs.Charges.{eightPerCent};
-ghost use Rattle.charges.specs.Tables.{tableBands, weightedBands, tableGroups};
+ghost use Rattle.charges.specs.Tables.{mostGross, tableBands, tableGross, weightedBands, tableGroups};
 
 // Currencies, and commodities.
 const GROUPS: usize = 32;
@@ -32,7 +32,7 @@ fn percents() -> Percents
 
 // The interest ladder of a currency.
 pub fn interest_figures(longs: &[u64; 480], shorts: &[u64; 480], group: usize) -> InterestFigures
-    requires { ⌜ (group < 32) × (gross (total (weightedBands (now longs) (now shorts) group) (span 0 15)) ≤ limit) ⌝ }
+    requires { ⌜ (group < 32) × (tableGross (now longs) (now shorts) group ≤ mostGross) ⌝ }
     ensures { λ r. ⌜ r ≡ interestFigures percents (weightedBands (now (longs .entry)) (now (shorts .entry)) group) ⌝ }
 {
     let weighted_longs = tables::weighted_bands(longs, group);
@@ -40,15 +40,17 @@ pub fn interest_figures(longs: &[u64; 480], shorts: &[u64; 480], group: usize) -
     ladder::interest(&weighted_longs, &weighted_shorts, percents())
 }
 
-// The interest ladders of all currencies.
+// The interest ladders of all currencies; one without amounts costs nothing and is passed over.
 pub fn interest_general(longs: &[u64; 480], shorts: &[u64; 480]) -> u64
-    requires { ⌜ sumOf (λ group. gross (total (weightedBands (now longs) (now shorts) group) (span 0 15))) groups ≤ limit ⌝ }
+    requires { ⌜ sumOf (tableGross (now longs) (now shorts)) groups ≤ mostGross ⌝ }
     ensures { λ r. ⌜ r ≡ sumOf (λ group. interestFigures percents (weightedBands (now (longs .entry)) (now (shorts .entry)) group) .charge) groups ⌝ }
 {
     let mut charge: u64 = 0;
     let mut group: usize = 0;
     while group < GROUPS {
-        charge += interest_figures(longs, shorts, group).charge;
+        if tables::group_gross(longs, shorts, group) != 0 {
+            charge += interest_figures(longs, shorts, group).charge;
+        }
         group += 1;
     }
     charge
@@ -56,7 +58,7 @@ pub fn interest_general(longs: &[u64; 480], shorts: &[u64; 480]) -> u64
 
 // The ladder of a commodity.
 pub fn commodity_figures(longs: &[u64; 480], shorts: &[u64; 480], group: usize) -> CommodityFigures
-    requires { ⌜ (group < 32) × (gross (total (tableBands (now longs) (now shorts) group) (span 0 7)) ≤ commodityLimit) ⌝ }
+    requires { ⌜ (group < 32) × (tableGross (now longs) (now shorts) group ≤ mostGross) ⌝ }
     ensures { λ r. ⌜ r ≡ commodityFigures (tableBands (now (longs .entry)) (now (shorts .entry)) group) ⌝ }
 {
     let commodity_longs = tables::commodity_bands(longs, group);
@@ -64,15 +66,17 @@ pub fn commodity_figures(longs: &[u64; 480], shorts: &[u64; 480], group: usize) 
     ladder::commodity(&commodity_longs, &commodity_shorts)
 }
 
-// The ladders of all commodities.
+// The ladders of all commodities; one without amounts costs nothing and is passed over.
 pub fn commodity_general(longs: &[u64; 480], shorts: &[u64; 480]) -> u64
-    requires { ⌜ sumOf (λ group. gross (total (tableBands (now longs) (now shorts) group) (span 0 7))) groups ≤ commodityLimit ⌝ }
+    requires { ⌜ sumOf (tableGross (now longs) (now shorts)) groups ≤ mostGross ⌝ }
     ensures { λ r. ⌜ r ≡ sumOf (λ group. commodityFigures (tableBands (now (longs .entry)) (now (shorts .entry)) group) .charge) groups ⌝ }
 {
     let mut charge: u64 = 0;
     let mut group: usize = 0;
     while group < GROUPS {
-        charge += commodity_figures(longs, shorts, group).charge;
+        if tables::group_gross(longs, shorts, group) != 0 {
+            charge += commodity_figures(longs, shorts, group).charge;
+        }
         group += 1;
     }
     charge
@@ -80,7 +84,7 @@ pub fn commodity_general(longs: &[u64; 480], shorts: &[u64; 480]) -> u64
 
 // 8% of the absolute nets of the markets.
 pub fn equity_general(longs: &[u64; 480], shorts: &[u64; 480]) -> u64
-    requires { ⌜ gross (total (tableGroups (now longs) (now shorts)) groups) ≤ commodityLimit ⌝ }
+    requires { ⌜ gross (total (tableGroups (now longs) (now shorts)) groups) ≤ mostGross ⌝ }
     ensures { λ r. ⌜ r ≡ eightPerCent * absoluteNets (tableGroups (now (longs .entry)) (now (shorts .entry))) ⌝ }
 {
     let group_longs = tables::group_sums(longs);
@@ -90,7 +94,7 @@ pub fn equity_general(longs: &[u64; 480], shorts: &[u64; 480]) -> u64
 
 // 8% of the shorthand net of the currencies, with gold.
 pub fn exchange_general(longs: &[u64; 480], shorts: &[u64; 480]) -> u64
-    requires { ⌜ gross (total (tableGroups (now longs) (now shorts)) groups) ≤ commodityLimit ⌝ }
+    requires { ⌜ gross (total (tableGroups (now longs) (now shorts)) groups) ≤ mostGross ⌝ }
     ensures { λ r. ⌜ r ≡ eightPerCent * shorthand (tableGroups (now (longs .entry)) (now (shorts .entry))) ⌝ }
 {
     let group_longs = tables::group_sums(longs);

@@ -1,24 +1,18 @@
 // The sums of a class's rows, in one run over them.
 use crate::bands;
 use crate::weights;
+ghost use mathlib.Core.Path.{_≡_};
 ghost use mathlib.Core.List.{map};
+ghost use lib.ListN.{replicate};
 ghost use Rattle.book.specs.Rows.{rowsIn, decode};
 ghost use Rattle.charges.specs.Tables.{Handed, SumsOf};
 
-// Longs and shorts by slot, fifteen slots to a group, one a band; and the specific charge.
-pub struct Sums {
-    pub longs: [u64; 480],
-    pub shorts: [u64; 480],
-    pub specific: u64,
-}
-
-// The sums of the rows of a class's part, which are clean and at most 4,000.
-pub fn sums_of(part: &[u8], class: usize) -> Sums
+// Adds the rows of a class's part to tables of zeros, longs and shorts by slot, and gives their specific charge.
+pub fn tally(part: &[u8], class: usize, longs: &mut [u64; 480], shorts: &mut [u64; 480]) -> u64
     requires { ⌜ Handed class (now part) ⌝ }
-    ensures { λ r. ⌜ SumsOf class (map decode (rowsIn (now (part .entry)))) r ⌝ }
+    requires { ⌜ (now longs ≡ replicate 480 0) × (now shorts ≡ replicate 480 0) ⌝ }
+    ensures { λ r. ⌜ SumsOf class (map decode (rowsIn (now (part .entry)))) (now (longs .exit)) (now (shorts .exit)) r ⌝ }
 {
-    let mut longs = [0u64; 480];
-    let mut shorts = [0u64; 480];
     let mut specific: u64 = 0;
     let rows = book::rows::row_count(part);
     let mut i: usize = 0;
@@ -30,9 +24,5 @@ pub fn sums_of(part: &[u8], class: usize) -> Sums
         specific += weights::specific_charge(class, row);
         i += 1;
     }
-    Sums {
-        longs,
-        shorts,
-        specific,
-    }
+    specific
 }

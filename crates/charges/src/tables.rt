@@ -1,10 +1,11 @@
 // Parts of the tables of sums, as the ladders take them.
 use crate::bands;
+ghost use mathlib.Core.Path.{_≡_};
 ghost use Prim.Native.Nat.{ℕ, _+_, _*_, _<_, _≤_};
 ghost use lib.ListN.{getD};
 ghost use Rattle.ladder.specs.Sides.{limit};
 ghost use Rattle.charges.specs.Bands.{weightOf};
-ghost use Rattle.charges.specs.Tables.{Reads};
+ghost use Rattle.charges.specs.Tables.{Reads, tableGross, mostGross};
 
 // The weighted sums of a currency's bands, on one side.
 pub fn weighted_bands(table: &[u64; 480], group: usize) -> [u64; 15]
@@ -46,4 +47,18 @@ pub fn group_sums(table: &[u64; 480]) -> [u64; 32]
         group += 1;
     }
     out
+}
+
+// What a group's bands hold on both sides.
+pub fn group_gross(longs: &[u64; 480], shorts: &[u64; 480], group: usize) -> u64
+    requires { ⌜ (group < 32) × (tableGross (now longs) (now shorts) group ≤ mostGross) ⌝ }
+    ensures { λ r. ⌜ r ≡ tableGross (now (longs .entry)) (now (shorts .entry)) group ⌝ }
+{
+    let mut gross: u64 = 0;
+    let mut k: usize = 0;
+    while k < 15 {
+        gross += longs[15 * group + k] + shorts[15 * group + k];
+        k += 1;
+    }
+    gross
 }

@@ -4,24 +4,24 @@ use native.Mathlib.Omega.{arith}
 use lib.ListN.{length-map}
 use Rattle.charges.specs.Charges.{interestFiguresOf}
 use Rattle.charges.proofs.Legs.{every-decoded}
-use Rattle.charges.proofs.Costs.{interest-is, interest-fits}
+use Rattle.charges.proofs.Costs.{fits, interest-is}
 use borrow.Author.Needs.{needs}
 use Rattle.charges.proofs.classes.interest_figures.Statement.{statement}
 use Rattle.charges.proofs.classes.interest_figures.Tie as tie
 
 interest-figures-requires : tie.Need-interest-figures-requires
 interest-figures-requires c κs =
-    let at-sums = c .before .before .before .before in
-    let start = at-sums .before .before in
+    let at-sums = c .before .before in
+    let start = at-sums .before .before .before .before in
     let group : start .args .group < 32 = omega (arith, start .pre .1) in
-    (group, interest-fits _ _ (at-sums .sums-of .ensures) (every-decoded (start .pre .0 .clean)) (rw length-map (start .pre .0 .few)) (start .args .group) group)
+    (group, fits 1 _ _ _ _ (at-sums .tally .ensures) (every-decoded (start .pre .0 .clean)) (rw length-map (start .pre .0 .few)) (start .args .group) group)
 
 returns : tie.Need-returns
 unfolding interestFiguresOf
 returns c =
-    let sums = c .before .before .before .before .before in
-    let start = sums .before .before in
-    c .interest-figures .ensures ∙ interest-is _ _ (sums .sums-of .ensures) (start .args .group) (omega (arith, start .pre .1))
+    let sums = c .before .before .before in
+    let start = sums .before .before .before .before in
+    c .interest-figures .ensures ∙ interest-is _ _ _ _ (sums .tally .ensures) (start .args .group) (omega (arith, start .pre .1))
 
 pub interest-figures-spec : {M : Type 1} → statement M
 interest-figures-spec = tie.close (tie.spec (λ c. search needs) interest-figures-requires returns)

@@ -3,7 +3,7 @@ use native.Mathlib.Omega.{arith}
 use Rattle.ladder.specs.Sides.{bands}
 use Rattle.ladder.proofs.Agreeing.{Agree, commodity-agree}
 use Rattle.charges.specs.Tables.{tableBands}
-use Rattle.charges.proofs.Summing.{arrays-agree, gross-agree}
+use Rattle.charges.proofs.Summing.{arrays-agree, gross-agree, fewer-within}
 use borrow.Author.Needs.{needs}
 use Rattle.charges.proofs.general.commodity_figures.Statement.{statement}
 use Rattle.charges.proofs.general.commodity_figures.Tie as tie
@@ -14,7 +14,9 @@ read : (c : tie.After-commodity-shorts) → Agree 7 (bands (c .before .before .b
 read c = arrays-agree 7 _ _ _ _ (c .before .before .before .commodity-bands .ensures) (c .before .before .commodity-bands2 .ensures)
 
 commodity-requires : tie.Need-commodity-requires
-commodity-requires c κs = omega (arith, gross-agree 7 (read c), c .before .before .before .before .pre .1)
+commodity-requires c κs =
+    let start = c .before .before .before .before in
+    omega (arith, gross-agree 7 (read c), fewer-within (tableBands (start .args .longs .now) (start .args .shorts .now) (start .args .group)) 7 8, start .pre .1)
 
 returns : tie.Need-returns
 returns c = c .commodity .ensures .is ∙ commodity-agree (read (c .before))

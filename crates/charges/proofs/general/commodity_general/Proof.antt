@@ -1,12 +1,12 @@
-use mathlib.Core.Path.{ap}
+use mathlib.Core.Path.{_≡_, ap}
+use mathlib.Core.Logic.{⊎-elim}
 use Prim.Native.Nat.{_-_}
 use native.Mathlib.Omega.{arith}
 use borrow.Author.Needs.{needs}
-use Rattle.ladder.specs.Sides.{gross, span, total}
-use Rattle.ladder.specs.Commodity.{commodityLimit, commodityFigures}
-use Rattle.ladder.proofs.Carrying.{commodity-within}
-use Rattle.charges.specs.Tables.{tableBands}
-use Rattle.charges.proofs.Summing.{Summed, summed-none, summed-next, summed-all, summed-room, sum-room}
+use Rattle.ladder.specs.Commodity.{commodityFigures}
+use Rattle.charges.specs.Tables.{mostGross, tableGross, tableBands}
+use Rattle.charges.proofs.Summing.{Summed, summed-none, summed-next, summed-over, summed-all, summed-room, sum-room}
+use Rattle.charges.proofs.Costs.{commodity-cost}
 use Rattle.charges.proofs.general.commodity_general.Statement.{statement}
 use Rattle.charges.proofs.general.commodity_general.Tie as tie
 
@@ -19,24 +19,39 @@ abbrev μ-loop : tie.MeasureT-loop
 loop-holds : tie.Need-loop-holds Inv-loop μ-loop
 loop-holds c = summed-none _ 32
 
+group-gross-requires : tie.Need-group-gross-requires Inv-loop μ-loop
+group-gross-requires c κs =
+    let start = c .before .before in
+    (c .loop-test .taken, omega (arith, sum-room (tableGross (start .args .longs .now) (start .args .shorts .now)) (c .before .loop .group) 32 (c .loop-test .taken), start .pre))
+
 commodity-figures-requires : tie.Need-commodity-figures-requires Inv-loop μ-loop
 commodity-figures-requires c κs =
-    let start = c .before .before in
-    (c .loop-test .taken, omega (arith, sum-room (λ g. gross (total (tableBands (start .args .longs .now) (start .args .shorts .now) g) (span 0 7))) (c .before .loop .group) 32 (c .loop-test .taken), start .pre))
+    let at-loop = c .before .before .before in
+    let start = at-loop .before in
+    (c .before .before .loop-test .taken, omega (arith, sum-room (tableGross (start .args .longs .now) (start .args .shorts .now)) (at-loop .loop .group) 32 (c .before .before .loop-test .taken), start .pre))
 
 add-charge : tie.Need-add-charge Inv-loop μ-loop
 add-charge c =
-    let at-loop = c .before .before .before in
-    let start = at-loop .before in
+    let at-figures = c .before in
+    let at-test = at-figures .before .before .before in
+    let start = at-test .before .before in
     omega (
       arith,
-      ap (λ figures. figures .charge) (c .before .commodity-figures .ensures),
-      summed-room _ (λ g. gross (total (tableBands (start .args .longs .now) (start .args .shorts .now) g) (span 0 7))) 186000 commodityLimit 32 _ _ (λ g. commodity-within (tableBands (start .args .longs .now) (start .args .shorts .now) g)) (start .pre) (at-loop .loop .inv) (c .before .before .loop-test .taken),
+      ap (λ figures. figures .charge) (at-figures .commodity-figures .ensures),
+      summed-room _ (tableGross (start .args .longs .now) (start .args .shorts .now)) 186000 mostGross 32 _ _ (commodity-cost (start .args .longs .now) (start .args .shorts .now)) (start .pre) (at-test .before .loop .inv) (at-test .loop-test .taken),
     )
 
 loop-again : tie.Need-loop-again Inv-loop μ-loop
 loop-again c =
-    summed-next _ 32 _ _ _ (c .before .before .before .loop .inv) (c .before .before .loop-test .taken) (ap (λ figures. figures .charge) (c .before .commodity-figures .ensures))
+    let at-test = c .before .before in
+    let at-loop = at-test .before in
+    let start = at-loop .before in
+    ⊎-elim
+    (λ w. rw (w .3) (summed-next _ 32 _ _ _ (at-loop .loop .inv) (at-test .loop-test .taken) (ap (λ figures. figures .charge) (w .1 .ensures))))
+    (λ w.
+    let none : commodityFigures (tableBands (start .args .longs .now) (start .args .shorts .now) (at-loop .loop .group)) .charge ≡ 0 = omega (arith, commodity-cost (start .args .longs .now) (start .args .shorts .now) (at-loop .loop .group), c .before .group-gross .ensures, w .0 .left) in
+    rw (w .1) (summed-over _ 32 _ _ (at-loop .loop .inv) (at-test .loop-test .taken) none))
+    (c .if1 .came)
 
 returns : tie.Need-returns Inv-loop μ-loop
 returns c = summed-all _ 32 _ _ (c .before .loop .inv) (c .loop-test .left)
@@ -48,6 +63,7 @@ commodity-general-spec =
     Inv-loop
     μ-loop
     loop-holds
+    group-gross-requires
     commodity-figures-requires
     add-charge
     (λ c. search needs)

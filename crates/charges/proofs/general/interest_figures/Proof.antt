@@ -1,3 +1,7 @@
+use Prim.Native.Nat.{_≤_}
+use Rattle.ladder.specs.Sides.{limit, gross, total}
+use Rattle.charges.specs.Tables.{tableBands}
+use Rattle.charges.proofs.Rates.{weighted-gross}
 use mathlib.Core.Path.{_∙_}
 use native.Mathlib.Omega.{arith}
 use Rattle.ladder.specs.Sides.{bands, span}
@@ -15,19 +19,25 @@ read : (c : tie.After-weighted-shorts) → Agree 15 (bands (c .before .before .b
     (weightedBands (c .before .before .before .before .args .longs .now) (c .before .before .before .before .args .shorts .now) (c .before .before .before .before .args .group))
 read c = arrays-agree 15 _ _ _ _ (c .before .before .before .weighted-bands .ensures) (c .before .before .weighted-bands2 .ensures)
 
+-- the weighted bands are within the ladder's limit
+weighted-fits : (start : tie.Start) → gross (total (weightedBands (start .args .longs .now) (start .args .shorts .now) (start .args .group)) (span 0 15)) ≤ limit
+weighted-fits start =
+    omega (arith, start .pre .1, weighted-gross (tableBands (start .args .longs .now) (start .args .shorts .now) (start .args .group)) (span 0 15))
+
 weighted-bands-requires : tie.Need-weighted-bands-requires
-weighted-bands-requires c κs = (c .pre .0, λ k h. omega (arith, band-within (weightedBands (c .args .longs .now) (c .args .shorts .now) (c .args .group)) 15 k h))
+weighted-bands-requires c κs =
+    (c .pre .0, λ k h. omega (arith, weighted-fits c, band-within (weightedBands (c .args .longs .now) (c .args .shorts .now) (c .args .group)) 15 k h))
 
 weighted-bands-requires-2 : tie.Need-weighted-bands-requires-2
 weighted-bands-requires-2 c κs =
     let start = c .before in
-    (start .pre .0, λ k h. omega (arith, band-within (weightedBands (start .args .longs .now) (start .args .shorts .now) (start .args .group)) 15 k h))
+    (start .pre .0, λ k h. omega (arith, weighted-fits start, band-within (weightedBands (start .args .longs .now) (start .args .shorts .now) (start .args .group)) 15 k h))
 
 interest-requires : tie.Need-interest-requires
 unfolding span
 interest-requires c κs =
     let start = c .before .before .before .before .before in
-    (rw (c .percents .ensures) percents-accepted, omega (arith, gross-agree 15 (read (c .before)), start .pre .1))
+    (rw (c .percents .ensures) percents-accepted, omega (arith, gross-agree 15 (read (c .before)), weighted-fits start))
 
 returns : tie.Need-returns
 returns c =

@@ -1,12 +1,12 @@
-use mathlib.Core.Path.{ap}
+use mathlib.Core.Path.{_≡_, ap}
+use mathlib.Core.Logic.{⊎-elim}
 use Prim.Native.Nat.{_-_}
 use native.Mathlib.Omega.{arith}
 use borrow.Author.Needs.{needs}
-use Rattle.ladder.specs.Sides.{limit, gross, span, total}
-use Rattle.ladder.specs.Interest.{matches, zones, percents, interestFigures}
-use Rattle.ladder.proofs.AddsUp.{charge-within, percents-accepted}
-use Rattle.charges.specs.Tables.{weightedBands}
-use Rattle.charges.proofs.Summing.{Summed, summed-none, summed-next, summed-all, summed-room, sum-room}
+use Rattle.ladder.specs.Interest.{percents, interestFigures}
+use Rattle.charges.specs.Tables.{mostGross, tableGross, weightedBands}
+use Rattle.charges.proofs.Summing.{Summed, summed-none, summed-next, summed-over, summed-all, summed-room, sum-room}
+use Rattle.charges.proofs.Costs.{interest-cost}
 use Rattle.charges.proofs.general.interest_general.Statement.{statement}
 use Rattle.charges.proofs.general.interest_general.Tie as tie
 
@@ -19,25 +19,39 @@ abbrev μ-loop : tie.MeasureT-loop
 loop-holds : tie.Need-loop-holds Inv-loop μ-loop
 loop-holds c = summed-none _ 32
 
+group-gross-requires : tie.Need-group-gross-requires Inv-loop μ-loop
+group-gross-requires c κs =
+    let start = c .before .before in
+    (c .loop-test .taken, omega (arith, sum-room (tableGross (start .args .longs .now) (start .args .shorts .now)) (c .before .loop .group) 32 (c .loop-test .taken), start .pre))
+
 interest-figures-requires : tie.Need-interest-figures-requires Inv-loop μ-loop
 interest-figures-requires c κs =
-    let start = c .before .before in
-    (c .loop-test .taken, omega (arith, sum-room (λ g. gross (total (weightedBands (start .args .longs .now) (start .args .shorts .now) g) (span 0 15))) (c .before .loop .group) 32 (c .loop-test .taken), start .pre))
-
-add-charge : tie.Need-add-charge Inv-loop μ-loop
-unfolding matches span
-add-charge c =
     let at-loop = c .before .before .before in
     let start = at-loop .before in
+    (c .before .before .loop-test .taken, omega (arith, sum-room (tableGross (start .args .longs .now) (start .args .shorts .now)) (at-loop .loop .group) 32 (c .before .before .loop-test .taken), start .pre))
+
+add-charge : tie.Need-add-charge Inv-loop μ-loop
+add-charge c =
+    let at-figures = c .before in
+    let at-test = at-figures .before .before .before in
+    let start = at-test .before .before in
     omega (
       arith,
-      ap (λ figures. figures .charge) (c .before .interest-figures .ensures),
-      summed-room _ (λ g. gross (total (weightedBands (start .args .longs .now) (start .args .shorts .now) g) (span 0 15))) 100 limit 32 _ _ (λ g. charge-within percents percents-accepted zones (weightedBands (start .args .longs .now) (start .args .shorts .now) g)) (start .pre) (at-loop .loop .inv) (c .before .before .loop-test .taken),
+      ap (λ figures. figures .charge) (at-figures .interest-figures .ensures),
+      summed-room _ (tableGross (start .args .longs .now) (start .args .shorts .now)) 125000 mostGross 32 _ _ (interest-cost (start .args .longs .now) (start .args .shorts .now)) (start .pre) (at-test .before .loop .inv) (at-test .loop-test .taken),
     )
 
 loop-again : tie.Need-loop-again Inv-loop μ-loop
 loop-again c =
-    summed-next _ 32 _ _ _ (c .before .before .before .loop .inv) (c .before .before .loop-test .taken) (ap (λ figures. figures .charge) (c .before .interest-figures .ensures))
+    let at-test = c .before .before in
+    let at-loop = at-test .before in
+    let start = at-loop .before in
+    ⊎-elim
+    (λ w. rw (w .3) (summed-next _ 32 _ _ _ (at-loop .loop .inv) (at-test .loop-test .taken) (ap (λ figures. figures .charge) (w .1 .ensures))))
+    (λ w.
+    let none : interestFigures percents (weightedBands (start .args .longs .now) (start .args .shorts .now) (at-loop .loop .group)) .charge ≡ 0 = omega (arith, interest-cost (start .args .longs .now) (start .args .shorts .now) (at-loop .loop .group), c .before .group-gross .ensures, w .0 .left) in
+    rw (w .1) (summed-over _ 32 _ _ (at-loop .loop .inv) (at-test .loop-test .taken) none))
+    (c .if1 .came)
 
 returns : tie.Need-returns Inv-loop μ-loop
 returns c = summed-all _ 32 _ _ (c .before .loop .inv) (c .loop-test .left)
@@ -49,6 +63,7 @@ interest-general-spec =
     Inv-loop
     μ-loop
     loop-holds
+    group-gross-requires
     interest-figures-requires
     add-charge
     (λ c. search needs)

@@ -1,5 +1,5 @@
 use Rattle.charges.specs.Tables.{slotIn}
--- `charges::sums::sums_of` meets its contract: the loop keeps that the tables hold the sums of the rows passed.
+-- `charges::sums::tally` meets its contract: the loop keeps that the tables hold the sums of the rows passed.
 -- Assumes nothing.
 use mathlib.Core.Path.{_≡_, sym, _∙_}
 use mathlib.Core.List.{[], map}
@@ -11,8 +11,8 @@ use Rattle.book.specs.Rows.{rowsIn, decode}
 use Rattle.book.specs.Accepted.{Clean}
 use Rattle.charges.proofs.Legs.{every-at, every-decoded, Bounded, bounded}
 use Rattle.charges.proofs.Tallying.{Taken, leg-at, none-taken, next-taken, table-room, specific-room, all-taken}
-use Rattle.charges.proofs.sums.sums_of.Statement.{statement}
-use Rattle.charges.proofs.sums.sums_of.Tie as tie
+use Rattle.charges.proofs.sums.tally.Statement.{statement}
+use Rattle.charges.proofs.sums.tally.Tie as tie
 
 abbrev Inv-loop : tie.InvT-loop
 Inv-loop part class longs₀ shorts₀ specific₀ rows i₀ longs shorts specific i = Taken class (map decode (rowsIn part)) i longs shorts specific
@@ -31,21 +31,23 @@ below c = rw length-map (omega (arith, c .before .before .before .row-count .ens
 clean : (c : tie.After-row-at Inv-loop μ-loop) → Clean (c .before .before .before .before .before .args .class) (c .row-at .result)
 clean c =
     let start = c .before .before .before .before .before in
-    rw (row-here c) (every-at {P = Clean (start .args .class)} (every-decoded (start .pre .clean)) (c .before .before .loop .i) (decode []) (below c))
+    rw (row-here c) (every-at {P = Clean (start .args .class)} (every-decoded (start .pre .0 .clean)) (c .before .before .loop .i) (decode []) (below c))
 
 -- what the sums of all rows come to
 most : (start : tie.Start Inv-loop μ-loop) → Bounded (start .args .class) (map decode (rowsIn (start .args .part .now)))
-most start = bounded _ _ (every-decoded (start .pre .clean)) (rw length-map (start .pre .few))
+most start = bounded _ _ (every-decoded (start .pre .0 .clean)) (rw length-map (start .pre .0 .few))
 
 loop-holds : tie.Need-loop-holds Inv-loop μ-loop
-loop-holds c = none-taken _ _
+loop-holds c =
+    let start = c .before .before in
+    rw (start .pre .1 .0, start .pre .1 .1) (none-taken _ _)
 
 slot-in-requires : tie.Need-slot-in-requires Inv-loop μ-loop
 slot-in-requires c κs = clean c .group
 
 add-longs : tie.Need-add-longs Inv-loop μ-loop
 add-longs c =
-    let at = c .before in
+    let at = c .before .before in
     let at-loop = at .before .before .before in
     let start = at-loop .before .before .before in
     let slot : slotIn (start .args .class) (at .before .row-at .result) < 480 = omega (arith, at .slot-in .ensures) in
@@ -53,7 +55,7 @@ add-longs c =
 
 add-shorts : tie.Need-add-shorts Inv-loop μ-loop
 add-shorts c =
-    let at = c .before .before in
+    let at = c .before .before .before .before in
     let at-loop = at .before .before .before in
     let start = at-loop .before .before .before in
     let slot : slotIn (start .args .class) (at .before .row-at .result) < 480 = omega (arith, at .slot-in .ensures) in
@@ -61,14 +63,14 @@ add-shorts c =
 
 add-specific : tie.Need-add-specific Inv-loop μ-loop
 add-specific c =
-    let at = c .before .before .before in
+    let at = c .before .before .before .before .before in
     let at-loop = at .before .before .before in
     let start = at-loop .before .before .before in
     omega (arith, most start .specific, c .specific-charge .ensures, specific-room (start .args .class) _ _ _ (below (at .before)) (row-here (at .before)) _ (at-loop .loop .inv .is-specific))
 
 loop-again : tie.Need-loop-again Inv-loop μ-loop
 loop-again c =
-    let at = c .before .before .before in
+    let at = c .before .before .before .before .before in
     let at-loop = at .before .before .before in
     let start = at-loop .before .before .before in
     rw (at .slot-in .ensures .0, c .specific-charge .ensures) (next-taken (start .args .class) _ _ _ (below (at .before)) (row-here (at .before)) _ _ _ (at-loop .loop .inv))
@@ -78,8 +80,8 @@ returns c =
     let start = c .before .before .before .before in
     all-taken _ _ _ _ _ _ (c .before .loop .inv) (rw length-map (omega (arith, c .before .before .row-count .ensures)))
 
-pub sums-of-spec : {M : Type 1} → statement M
-sums-of-spec =
+pub tally-spec : {M : Type 1} → statement M
+tally-spec =
     tie.close
     (tie.spec
     Inv-loop
