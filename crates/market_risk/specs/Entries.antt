@@ -1,0 +1,39 @@
+-- The entries of each call's result, in order.
+use Prim.Native.Nat.{ℕ}
+use mathlib.Core.List.{List, [], _∷_, _++_}
+use Rattle.book.specs.declared.Refusal.{Refusal}
+use Rattle.charges.specs.declared.Report.{Report}
+use Rattle.charges.specs.declared.InterestLadder.{InterestLadder}
+use Rattle.charges.specs.declared.CommodityLadder.{CommodityLadder}
+use Rattle.join.specs.declared.Joined.{Joined}
+
+-- number, row, book (document 01, Who is told no, and why)
+unfoldable pub refusalEntries : Refusal → List ℕ
+refusalEntries refusal = refusal .number ∷ refusal .row ∷ refusal .book ∷ []
+
+-- the refusal, the six charges, the total (document 01, The book file)
+unfoldable pub reportEntries : Report → List ℕ
+reportEntries report =
+    refusalEntries (report .refusal) ++
+    (report .interest .specific ∷ report .interest .general ∷
+    report .equity .specific ∷ report .equity .general ∷
+    report .exchange ∷ report .commodity ∷ report .total ∷ [])
+
+-- the refusal, gross, the match sums, the residual, the charge (document 01, Interest: bands and zones)
+unfoldable pub interestEntries : InterestLadder → List ℕ
+interestEntries ladder =
+    refusalEntries (ladder .refusal) ++
+    (ladder .figures .gross ∷ ladder .figures .vertical ∷
+    ladder .figures .zone1 ∷ ladder .figures .zone2 ∷ ladder .figures .zone3 ∷
+    ladder .figures .zones12 ∷ ladder .figures .zones23 ∷ ladder .figures .zones13 ∷
+    ladder .figures .residual ∷ ladder .figures .charge ∷ [])
+
+-- the refusal, matches, amounts carried, the residual, the charge (document 01, The commodities ladder)
+unfoldable pub commodityEntries : CommodityLadder → List ℕ
+commodityEntries ladder =
+    refusalEntries (ladder .refusal) ++
+    (ladder .figures .matches ∷ ladder .figures .carried ∷ ladder .figures .residual ∷ ladder .figures .charge ∷ [])
+
+-- the refusal, the joined length (document 01, Joining)
+unfoldable pub joinedEntries : Joined → List ℕ
+joinedEntries joined = refusalEntries (joined .refusal) ++ (joined .length ∷ [])

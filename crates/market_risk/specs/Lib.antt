@@ -1,0 +1,2 @@
+-- What the calls for other languages write.
+pub mod Entries

@@ -1,0 +1,95 @@
+// The calls for programs in other languages: each writes every entry of its result.
+ghost use mathlib.Core.Path.{_≡_};
+ghost use lib.ListN.{length as len};
+ghost use Rattle.book.specs.Refusals.{refusalOf};
+ghost use Rattle.charges.specs.Report.{reportOf, interestLadderOf, commodityLadderOf};
+ghost use Rattle.join.specs.Joined.{joinedOf, joinOutput};
+ghost use Rattle.market_risk.specs.Entries.{refusalEntries, reportEntries, interestEntries, commodityEntries, joinedEntries};
+
+// The refusal of a book.
+#[no_mangle]
+pub extern "C" fn market_risk_check(book: &[u8], out: &mut [u64; 3])
+    ensures { λ r. ⌜ now (out .exit) ≡ refusalEntries (refusalOf (now (book .entry))) ⌝ }
+{
+    let refusal = book::check(book);
+    *out = [
+        refusal.number as u64,
+        refusal.row as u64,
+        refusal.book as u64,
+    ];
+}
+
+// The report of a book.
+#[no_mangle]
+pub extern "C" fn market_risk_charge(book: &[u8], out: &mut [u64; 10])
+    ensures { λ r. ⌜ now (out .exit) ≡ reportEntries (reportOf (now (book .entry))) ⌝ }
+{
+    let report = charges::charge(book);
+    *out = [
+        report.refusal.number as u64,
+        report.refusal.row as u64,
+        report.refusal.book as u64,
+        report.interest.specific,
+        report.interest.general,
+        report.equity.specific,
+        report.equity.general,
+        report.exchange,
+        report.commodity,
+        report.total,
+    ];
+}
+
+// The interest ladder of a currency.
+#[no_mangle]
+pub extern "C" fn market_risk_interest_ladder(book: &[u8], group: usize, out: &mut [u64; 13])
+    ensures { λ r. ⌜ now (out .exit) ≡ interestEntries (interestLadderOf (now (book .entry)) group) ⌝ }
+{
+    let ladder = charges::interest_ladder(book, group);
+    *out = [
+        ladder.refusal.number as u64,
+        ladder.refusal.row as u64,
+        ladder.refusal.book as u64,
+        ladder.figures.gross,
+        ladder.figures.vertical,
+        ladder.figures.zone1,
+        ladder.figures.zone2,
+        ladder.figures.zone3,
+        ladder.figures.zones12,
+        ladder.figures.zones23,
+        ladder.figures.zones13,
+        ladder.figures.residual,
+        ladder.figures.charge,
+    ];
+}
+
+// The ladder of a commodity.
+#[no_mangle]
+pub extern "C" fn market_risk_commodity_ladder(book: &[u8], group: usize, out: &mut [u64; 7])
+    ensures { λ r. ⌜ now (out .exit) ≡ commodityEntries (commodityLadderOf (now (book .entry)) group) ⌝ }
+{
+    let ladder = charges::commodity_ladder(book, group);
+    *out = [
+        ladder.refusal.number as u64,
+        ladder.refusal.row as u64,
+        ladder.refusal.book as u64,
+        ladder.figures.matches,
+        ladder.figures.carried,
+        ladder.figures.residual,
+        ladder.figures.charge,
+    ];
+}
+
+// Joins two books into out: bytes past the joined book keep their values, of a refused join all do.
+#[no_mangle]
+pub extern "C" fn market_risk_join(a: &[u8], b: &[u8], out: &mut [u8], result: &mut [u64; 4])
+    ensures { λ r. ⌜ now (out .exit) ≡ joinOutput (now (a .entry)) (now (b .entry)) (now (out .entry)) ⌝ }
+    ensures { λ r. ⌜ now (result .exit) ≡ joinedEntries (joinedOf (now (a .entry)) (now (b .entry)) (len (now (out .entry)))) ⌝ }
+{
+    let joined = join::join(a, b, out);
+    *result = [
+        joined.refusal.number as u64,
+        joined.refusal.row as u64,
+        joined.refusal.book as u64,
+        joined.length as u64,
+    ];
+}

@@ -1,0 +1,87 @@
+// The line of a call: its name and every figure that it gives.
+use book::Refusal;
+use libc::STDOUT_FILENO;
+ghost use Prim.Native.Nat.{_<_};
+
+fn start(name: &[u8], refusal: Refusal) {
+    io::write_all(STDOUT_FILENO, name);
+    figure(refusal.number as u64);
+    figure(refusal.row as u64);
+    figure(refusal.book as u64);
+}
+
+fn figure(value: u64) {
+    io::write_all(STDOUT_FILENO, b" ");
+    io::print_decimal(STDOUT_FILENO, value);
+}
+
+fn end() {
+    io::write_all(STDOUT_FILENO, b"\n");
+}
+
+pub fn check(book: &[u8]) {
+    start(b"check", book::check(book));
+    end();
+}
+
+pub fn charge(book: &[u8]) {
+    let report = charges::charge(book);
+    start(b"charge", report.refusal);
+    figure(report.interest.specific);
+    figure(report.interest.general);
+    figure(report.equity.specific);
+    figure(report.equity.general);
+    figure(report.exchange);
+    figure(report.commodity);
+    figure(report.total);
+    end();
+}
+
+pub fn interest_ladder(book: &[u8], group: usize) {
+    let ladder = charges::interest_ladder(book, group);
+    start(b"interest-ladder", ladder.refusal);
+    figure(ladder.figures.gross);
+    figure(ladder.figures.vertical);
+    figure(ladder.figures.zone1);
+    figure(ladder.figures.zone2);
+    figure(ladder.figures.zone3);
+    figure(ladder.figures.zones12);
+    figure(ladder.figures.zones23);
+    figure(ladder.figures.zones13);
+    figure(ladder.figures.residual);
+    figure(ladder.figures.charge);
+    end();
+}
+
+pub fn commodity_ladder(book: &[u8], group: usize) {
+    let ladder = charges::commodity_ladder(book, group);
+    start(b"commodity-ladder", ladder.refusal);
+    figure(ladder.figures.matches);
+    figure(ladder.figures.carried);
+    figure(ladder.figures.residual);
+    figure(ladder.figures.charge);
+    end();
+}
+
+pub fn join(a: &[u8], b: &[u8], out: &mut [u8]) {
+    let joined = join::join(a, b, out);
+    start(b"join", joined.refusal);
+    figure(joined.length as u64);
+    figure(checksum(out));
+    end();
+}
+
+fn wide(byte: u8) -> u64
+    ensures { λ r. ⌜ r < 256 ⌝ }
+{
+    byte as u64
+}
+
+// Over every byte of the output in order, by a prime below 2 to the 30th.
+fn checksum(out: &[u8]) -> u64 {
+    let mut sum = 0u64;
+    for i in 0..out.len() {
+        sum = (sum * 31 + wide(out[i]) + 1) % 1000000007;
+    }
+    sum
+}

@@ -1,0 +1,65 @@
+// Reads calls with their books from standard input, makes each call and writes a line with every figure that it gives.
+// The stream and the lines are those of docs/VECTORS.md. A stream that breaks off is read as if zeros followed, and 0 is its end.
+mod input;
+mod lines;
+
+fn answer_book(call: u8, in_runs: bool) -> bool {
+    let group = input::read_u16();
+    let length = input::read_u32();
+    let mut space = io::large_buffer();
+    let n = input::read_book(&mut space, length, in_runs);
+    if n != length {
+        return false;
+    }
+    match call {
+        1 => lines::check(&space[..n]),
+        2 => lines::charge(&space[..n]),
+        3 => lines::interest_ladder(&space[..n], group),
+        _ => lines::commodity_ladder(&space[..n], group),
+    }
+    true
+}
+
+fn answer_join(in_runs: bool) -> bool {
+    let room = input::read_u32();
+    let a_length = input::read_u32();
+    let b_length = input::read_u32();
+    let mut a = io::large_buffer();
+    let mut b = io::large_buffer();
+    let m = input::read_book(&mut a, a_length, in_runs);
+    let n = input::read_book(&mut b, b_length, in_runs);
+    if m != a_length || n != b_length {
+        return false;
+    }
+    join_into(&a[..m], &b[..n], room)
+}
+
+// Joins into an output of as many bytes as there is room for, each 165 before.
+fn join_into(a: &[u8], b: &[u8], room: usize) -> bool {
+    let mut out = [165u8; 65536];
+    if out.len() < room {
+        return false;
+    }
+    lines::join(a, b, &mut out[..room]);
+    true
+}
+
+// Answers the next call of the stream, and whether there was one.
+fn answer_next() -> bool {
+    let tag = input::read_byte();
+    let in_runs = 128 <= tag;
+    let call = tag % 128;
+    match call {
+        1..=4 => answer_book(call, in_runs),
+        5 => answer_join(in_runs),
+        _ => false,
+    }
+}
+
+// A proved loop has to end, and nothing says that the input does: the turns are counted down from a number that no stream uses up.
+fn main() {
+    let mut turns = u64::MAX;
+    while turns > 0 && answer_next() {
+        turns -= 1;
+    }
+}

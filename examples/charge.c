@@ -1,0 +1,50 @@
+/* Charges two small books through the C interface and prints their reports.
+ *
+ *     cc -Wall -Wextra -Werror -Iinclude examples/charge.c target/staticlib/libmarket_risk.a -o charge
+ */
+#include "market_risk.h"
+
+#include <inttypes.h>
+#include <stdio.h>
+
+/* Document 01's equity book: market 3, ordinary long 100, index short 40. */
+static const uint8_t equity[8 + 2 * 16] = {
+    0, 0, 2, 0, 0, 0, 0, 0, /* counts: no interest rows, two equity rows */
+    3, 1, 0, 0, 0, 0, 0, 0, 100, 0, 0, 0, 0,  0, 0, 0,
+    3, 3, 0, 0, 0, 0, 0, 0, 0,   0, 0, 0, 40, 0, 0, 0,
+};
+
+/* Document 01's E3: currency 7, government, coupon 800 (0x0320);
+ * long 75 at 270 days (0x010e), short 30 at 900 (0x0384), long 10 at 6000 (0x1770). */
+static const uint8_t zones[8 + 3 * 16] = {
+    3, 0, 0, 0, 0, 0, 0, 0,
+    7, 1, 0x0e, 0x01, 0x20, 0x03, 0, 0, 75, 0, 0, 0, 0,  0, 0, 0,
+    7, 1, 0x84, 0x03, 0x20, 0x03, 0, 0, 0,  0, 0, 0, 30, 0, 0, 0,
+    7, 1, 0x70, 0x17, 0x20, 0x03, 0, 0, 10, 0, 0, 0, 0,  0, 0, 0,
+};
+
+static void print_report(const char *name, const uint8_t *book, size_t len)
+{
+    static const char *const figures[7] = {
+        "interest-specific", "interest-general", "equity-specific", "equity-general",
+        "fx", "commodity", "total",
+    };
+    uint64_t out[10];
+
+    market_risk_charge(book, len, out);
+    printf("%s\n", name);
+    if (out[0] != 0) {
+        printf("refused %" PRIu64 " row %" PRIu64 "\n", out[0], out[1]);
+        return;
+    }
+    for (int i = 0; i < 7; i++)
+        printf("%s %" PRIu64 "\n", figures[i], out[3 + i]);
+}
+
+int main(void)
+{
+    print_report("equity book", equity, sizeof equity);
+    print_report("zones book", zones, sizeof zones);
+    print_report("equity book without its last byte", equity, sizeof equity - 1);
+    return 0;
+}

@@ -1,0 +1,60 @@
+/* The charges for standardised market risk: the C interface of the proved library.
+ *
+ * A book is document 01's book file, as bytes in memory. Every call writes every entry
+ * of its result. The first three entries are always the refusal:
+ *
+ *     number   0 when the call is accepted, else document 01's number, 1 to 12
+ *     row      the refused row, counted from 0 through the whole file; 0 for all but 4 to 9
+ *     book     1 for a fault of the second book of a join, else 0
+ *
+ * When the number is not 0, every other entry is 0. Charges are in mils, thousandths of
+ * the currency unit; weighted positions are amounts (thousands) times basis points.
+ *
+ * Pointers must not be null, also where the length is 0, and must hold as many bytes or
+ * entries as is said. A result must not overlap a book, nor the output of a join either
+ * of its books. No call keeps a pointer, allocates, or has state of its own, so calls may
+ * run at once.
+ */
+#ifndef MARKET_RISK_H
+#define MARKET_RISK_H
+
+#include <stddef.h>
+#include <stdint.h>
+
+#ifdef __cplusplus
+extern "C" {
+#endif
+
+/* Whether a book is accepted.
+ * out: number, row, book. */
+void market_risk_check(const uint8_t *book, size_t len, uint64_t out[3]);
+
+/* The report of a book.
+ * out: number, row, book; interest specific, interest general, equity specific,
+ * equity general, foreign exchange, commodity; total. */
+void market_risk_charge(const uint8_t *book, size_t len, uint64_t out[10]);
+
+/* The interest ladder of one currency, group 0 to 31; a greater group is refused with 10.
+ * out: number, row, book; gross; the match sums: vertical, zones 1, 2, 3, 1-2, 2-3, 1-3;
+ * residual; charge. All but the charge are weighted positions. */
+void market_risk_interest_ladder(const uint8_t *book, size_t len, size_t group,
+                                 uint64_t out[13]);
+
+/* The ladder of one commodity, group 0 to 31; a greater group is refused with 10.
+ * out: number, row, book; matches (each counted on one side), carried (counted at every
+ * step), residual, all three in amounts; charge. */
+void market_risk_commodity_ladder(const uint8_t *book, size_t len, size_t group,
+                                  uint64_t out[7]);
+
+/* Writes the join of two books to the front of out, which has out_len bytes. Bytes past
+ * the joined book keep their values, and a refused join writes none. Two books of a_len
+ * and b_len bytes want a_len + b_len - 8.
+ * result: number, row, book; the length of the joined book. */
+void market_risk_join(const uint8_t *a, size_t a_len, const uint8_t *b, size_t b_len,
+                      uint8_t *out, size_t out_len, uint64_t result[4]);
+
+#ifdef __cplusplus
+}
+#endif
+
+#endif

@@ -1,0 +1,181 @@
+//! A book as CSV text: one line a row, classes and kinds by name.
+
+use crate::names::{class_of, kind_name, kind_of, kinds, CLASS_NAMES};
+use crate::{Book, Row};
+use std::fmt;
+
+/// The header line, exactly.
+pub const HEADER: &str = "class,group,kind,days,coupon,issue,long,short";
+
+/// What is wrong with a line of the text. Lines are numbered from 1.
+#[derive(Clone, Debug, PartialEq, Eq)]
+pub struct LineError {
+    pub line: usize,
+    pub what: String,
+}
+
+impl fmt::Display for LineError {
+    fn fmt(&self, out: &mut fmt::Formatter) -> fmt::Result {
+        write!(out, "line {}: {}", self.line, self.what)
+    }
+}
+
+/// A book and, for each of its rows in file order, the line that it came from.
+#[derive(Clone, Debug, Default, PartialEq, Eq)]
+pub struct Parsed {
+    pub book: Book,
+    pub lines: Vec<usize>,
+}
+
+/// A number of a field, within what its bytes can hold.
+fn field<T: TryFrom<u64>>(name: &str, text: &str) -> Result<T, String> {
+    let digits = !text.is_empty() && text.bytes().all(|byte| byte.is_ascii_digit());
+    if !digits {
+        return Err(format!("{name} is '{text}', not a whole number"));
+    }
+    let number = text.parse::<u64>().ok();
+    let fits = number.and_then(|number| T::try_from(number).ok());
+    fits.ok_or_else(|| format!("{name} is {text}, too large for its bytes in a row"))
+}
+
+/// The names that a class or kind may have, for a message.
+fn choices<'a>(names: impl Iterator<Item = &'a str>) -> String {
+    names.collect::<Vec<_>>().join(", ")
+}
+
+/// The class and the row of one line.
+fn row(line: &str) -> Result<(usize, Row), String> {
+    let fields: Vec<&str> = line.split(',').map(str::trim).collect();
+    let [class, group, kind, days, coupon, issue, long, short] = fields[..] else {
+        return Err(format!("{} fields where 8 are wanted", fields.len()));
+    };
+    let known = || choices(CLASS_NAMES.iter().copied());
+    let number =
+        class_of(class).ok_or_else(|| format!("class is '{class}', not one of {}", known()))?;
+    let known = || choices(kinds(number).iter().map(|(_, name)| *name));
+    let row = Row {
+        group: field("group", group)?,
+        kind: kind_of(number, kind)
+            .ok_or_else(|| format!("kind is '{kind}', not one of {} for {class}", known()))?,
+        days: field("days", days)?,
+        coupon: field("coupon", coupon)?,
+        issue: field("issue", issue)?,
+        long: field("long", long)?,
+        short: field("short", short)?,
+    };
+    Ok((number, row))
+}
+
+/// Reads CSV text. Blank lines are passed over; rows keep their order within a class.
+pub fn parse(text: &str) -> Result<Parsed, LineError> {
+    let text = text.strip_prefix('\u{feff}').unwrap_or(text);
+    let mut lines = text
+        .lines()
+        .enumerate()
+        .map(|(at, line)| (at + 1, line.trim()));
+    let fault = |line: usize, what: String| Err(LineError { line, what });
+    match lines.next() {
+        Some((_, HEADER)) => (),
+        _ => return fault(1, format!("the header must be exactly {HEADER}")),
+    }
+    let mut parsed = Parsed::default();
+    let mut numbers: [Vec<usize>; 4] = Default::default();
+    for (number, line) in lines.filter(|(_, line)| !line.is_empty()) {
+        match row(line) {
+            Ok((class, row)) => {
+                parsed.book.classes[class].push(row);
+                numbers[class].push(number);
+            }
+            Err(what) => return fault(number, what),
+        }
+    }
+    parsed.lines = numbers.concat();
+    Ok(parsed)
+}
+
+/// One row as a line, without its end.
+pub fn line(class: usize, row: &Row) -> String {
+    let Row {
+        group,
+        days,
+        coupon,
+        issue,
+        long,
+        short,
+        ..
+    } = row;
+    let (class, kind) = (CLASS_NAMES[class], kind_name(class, row.kind));
+    format!("{class},{group},{kind},{days},{coupon},{issue},{long},{short}")
+}
+
+/// A book as CSV text.
+pub fn write(book: &Book) -> String {
+    let mut text = format!("{HEADER}\n");
+    for (class, rows) in book.classes.iter().enumerate() {
+        for row in rows {
+            text.push_str(&line(class, row));
+            text.push('\n');
+        }
+    }
+    text
+}
+
+#[cfg(test)]
+mod tests {
+    use super::*;
+
+    fn what(line: &str) -> String {
+        let error = parse(&format!("{HEADER}\n\n{line}\n")).unwrap_err();
+        assert_eq!(error.line, 3);
+        error.what
+    }
+
+    #[test]
+    fn rows_are_sorted_by_class_and_keep_their_lines() {
+        let text = format!("\u{feff}{HEADER}\r\nfx,1,none,0,0,0,5,0\r\n\r\ninterest, 2, other,30,300,9,0,7\r\nfx,0,none,0,0,0,6,0\r\n");
+        let parsed = parse(&text).unwrap();
+        assert_eq!(parsed.lines, [4, 2, 5]);
+        let written = format!(
+            "{HEADER}\ninterest,2,other,30,300,9,0,7\nfx,1,none,0,0,0,5,0\nfx,0,none,0,0,0,6,0\n"
+        );
+        assert_eq!(write(&parsed.book), written);
+        assert_eq!(parse(&written).unwrap().book, parsed.book);
+    }
+
+    #[test]
+    fn a_damaged_row_comes_back_as_it_was() {
+        let row = Row {
+            group: 255,
+            kind: 7,
+            days: u16::MAX,
+            coupon: u16::MAX,
+            issue: u16::MAX,
+            long: u32::MAX,
+            short: u32::MAX,
+        };
+        for class in 0..4 {
+            let mut book = Book::default();
+            book.classes[class].push(row);
+            assert_eq!(parse(&write(&book)).unwrap().book, book);
+        }
+    }
+
+    #[test]
+    fn errors_name_the_line_and_the_field() {
+        assert!(what("fx,1,none,0,0,0,5").starts_with("7 fields"));
+        assert!(what("bonds,1,none,0,0,0,5,0").contains("interest, equity, fx, commodity"));
+        assert!(what("equity,1,government,0,0,0,5,0")
+            .contains("ordinary, diversified, index for equity"));
+        assert!(what("fx,256,none,0,0,0,5,0").contains("group is 256"));
+        assert!(what("fx,1,none,0,0,0,-5,0").contains("long is '-5'"));
+        assert!(what("fx,1,none,0,0,0,5,").contains("short is ''"));
+        assert!(what("fx,1,none,0,0,0,4294967296,0").contains("too large"));
+        assert!(what("fx,1,none,0,0,0,99999999999999999999999,0").contains("too large"));
+    }
+
+    #[test]
+    fn the_header_must_be_there() {
+        assert_eq!(parse("").unwrap_err().line, 1);
+        assert_eq!(parse("fx,1,none,0,0,0,5,0\n").unwrap_err().line, 1);
+    }
+}

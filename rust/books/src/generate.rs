@@ -1,0 +1,152 @@
+//! Random books that are accepted and favour the edges.
+
+use crate::{Book, Random, Row, CLASSES};
+
+/// The last days of all bands of all ladders, and the ends of the range.
+const EDGE_DAYS: [u16; 26] = [
+    0, 1, 30, 90, 180, 360, 684, 720, 1008, 1080, 1296, 1440, 1548, 1800, 2052, 2520, 2628, 3348,
+    3600, 3816, 4320, 5400, 7200, 35_999, 36_000, 36_000,
+];
+
+/// What a random book is drawn from.
+#[derive(Clone, Debug)]
+pub struct Shape {
+    /// How many rows the book has.
+    pub rows: usize,
+    /// The groups that its rows are in.
+    pub groups: Vec<u8>,
+    /// An interest zone, 1 to 3, that no row lies in.
+    pub without: Option<u8>,
+}
+
+impl Shape {
+    /// A shape with few groups or all of them, and often one zone left out.
+    pub fn new(random: &mut Random, rows: usize) -> Shape {
+        let groups = match random.below(4) {
+            0 => (0..32).collect(),
+            1 => vec![0, 31],
+            _ => (0..=random.below(2))
+                .map(|_| random.below(32) as u8)
+                .collect(),
+        };
+        let without = [None, Some(1), Some(2), Some(3)][random.below(4) as usize];
+        Shape {
+            rows,
+            groups,
+            without,
+        }
+    }
+}
+
+/// The zone of an interest row.
+fn zone(days: u16, coupon: u16) -> u8 {
+    let end_of_2 = if coupon >= 300 { 1440 } else { 1296 };
+    match days {
+        ..=360 => 1,
+        _ if days <= end_of_2 => 2,
+        _ => 3,
+    }
+}
+
+/// Days from 0 to 36,000, mostly at a band's end or one day off it.
+fn days(random: &mut Random) -> u16 {
+    match random.below(8) {
+        0 => random.below(36_001) as u16,
+        1 => random.below(7_300) as u16,
+        _ => {
+            let near = i32::from(random.pick(&EDGE_DAYS)) + random.below(3) as i32 - 1;
+            near.clamp(0, 36_000) as u16
+        }
+    }
+}
+
+/// A coupon from 0 to 10,000, mostly next to 300.
+fn coupon(random: &mut Random) -> u16 {
+    match random.below(4) {
+        0 => random.below(10_001) as u16,
+        _ => random.pick(&[0, 299, 300, 301, 800, 10_000]),
+    }
+}
+
+/// An amount from 1 to 1,000,000,000.
+fn amount(random: &mut Random) -> u32 {
+    match random.below(8) {
+        0 => random.pick(&[1, 2, 999_999_999, 1_000_000_000]),
+        1 => 1 + random.below(1_000_000_000) as u32,
+        2 => random.pick(&[10, 20, 40, 70, 125, 175, 225, 275]),
+        _ => 1 + random.below(100) as u32,
+    }
+}
+
+/// A row that its class accepts.
+pub fn row(random: &mut Random, class: usize, shape: &Shape) -> Row {
+    let mut row = Row {
+        group: random.pick(&shape.groups),
+        issue: random.draw() as u16,
+        ..Row::default()
+    };
+    if class < 2 {
+        row.kind = 1 + random.below(3) as u8;
+    }
+    if class == 0 {
+        row.coupon = coupon(random);
+    }
+    if class == 0 || class == 3 {
+        row.days = days(random);
+        while class == 0 && Some(zone(row.days, row.coupon)) == shape.without {
+            row.days = days(random);
+        }
+    }
+    match random.once_in(2) {
+        true => row.long = amount(random),
+        false => row.short = amount(random),
+    }
+    row
+}
+
+/// An accepted book of a shape.
+pub fn book(random: &mut Random, shape: &Shape) -> Book {
+    let only = random.below(2 * CLASSES as u64) as usize;
+    let mut book = Book::default();
+    for _ in 0..shape.rows {
+        let class = match only < CLASSES {
+            true => only,
+            false => random.below(CLASSES as u64) as usize,
+        };
+        book.classes[class].push(row(random, class, shape));
+    }
+    book
+}
+
+#[cfg(test)]
+mod tests {
+    use super::*;
+
+    #[test]
+    fn a_zone_left_out_holds_no_row() {
+        let mut random = Random::new(5);
+        for without in 1..=3 {
+            let shape = Shape {
+                rows: 0,
+                groups: vec![4],
+                without: Some(without),
+            };
+            for _ in 0..500 {
+                let row = row(&mut random, 0, &shape);
+                assert_ne!(zone(row.days, row.coupon), without);
+            }
+        }
+    }
+
+    #[test]
+    fn a_seed_gives_one_book() {
+        let make = |seed| {
+            let mut random = Random::new(seed);
+            let shape = Shape::new(&mut random, 20);
+            book(&mut random, &shape)
+        };
+        assert_eq!(make(7), make(7));
+        assert_ne!(make(7), make(8));
+        assert_eq!(make(9).rows(), 20);
+    }
+}

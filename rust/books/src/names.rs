@@ -1,0 +1,60 @@
+//! The names of classes and kinds in CSV text.
+
+use crate::CLASSES;
+
+/// The classes by name, in file order.
+pub const CLASS_NAMES: [&str; CLASSES] = ["interest", "equity", "fx", "commodity"];
+
+/// The kinds that a class knows, by number and name.
+pub fn kinds(class: usize) -> &'static [(u8, &'static str)] {
+    match class {
+        0 => &[(1, "government"), (2, "qualifying"), (3, "other")],
+        1 => &[(1, "ordinary"), (2, "diversified"), (3, "index")],
+        _ => &[(0, "none")],
+    }
+}
+
+/// The class with this name, 0 to 3.
+pub fn class_of(name: &str) -> Option<usize> {
+    CLASS_NAMES.iter().position(|known| *known == name)
+}
+
+/// The name of a kind. A kind that the class does not know is its number.
+pub fn kind_name(class: usize, kind: u8) -> String {
+    let known = kinds(class).iter().find(|(number, _)| *number == kind);
+    known.map_or_else(|| kind.to_string(), |(_, name)| name.to_string())
+}
+
+/// The kind with this name. A plain number stands only for a kind that has no name.
+pub fn kind_of(class: usize, name: &str) -> Option<u8> {
+    if let Some((number, _)) = kinds(class).iter().find(|(_, known)| *known == name) {
+        return Some(*number);
+    }
+    let number = name.parse().ok()?;
+    (kind_name(class, number) == name).then_some(number)
+}
+
+#[cfg(test)]
+mod tests {
+    use super::*;
+
+    #[test]
+    fn every_kind_has_one_spelling() {
+        for class in 0..CLASSES {
+            for kind in 0..=255 {
+                assert_eq!(kind_of(class, &kind_name(class, kind)), Some(kind));
+            }
+        }
+        assert_eq!(kind_of(0, "1"), None);
+        assert_eq!(kind_of(0, "+7"), None);
+        assert_eq!(kind_of(0, "index"), None);
+        assert_eq!(kind_of(2, "none"), Some(0));
+        assert_eq!(kind_of(2, "256"), None);
+    }
+
+    #[test]
+    fn classes_by_name() {
+        assert_eq!(class_of("commodity"), Some(3));
+        assert_eq!(class_of("Commodity"), None);
+    }
+}

@@ -1,0 +1,74 @@
+//! The calls of the C interface, each result an array that the library fills.
+//!
+//! The first three entries are the refusal's number, row and book, all 0 when the call
+//! is accepted; every other entry is 0 when it is not. The library writes every entry.
+
+/// The names and types of `include/market_risk.h`.
+mod c {
+    extern "C" {
+        pub fn market_risk_check(book: *const u8, len: usize, out: *mut u64);
+        pub fn market_risk_charge(book: *const u8, len: usize, out: *mut u64);
+        pub fn market_risk_interest_ladder(
+            book: *const u8,
+            len: usize,
+            group: usize,
+            out: *mut u64,
+        );
+        pub fn market_risk_commodity_ladder(
+            book: *const u8,
+            len: usize,
+            group: usize,
+            out: *mut u64,
+        );
+        pub fn market_risk_join(
+            a: *const u8,
+            a_len: usize,
+            b: *const u8,
+            b_len: usize,
+            out: *mut u8,
+            out_len: usize,
+            result: *mut u64,
+        );
+    }
+}
+
+/// Number, row, book.
+pub fn check(book: &[u8], out: &mut [u64; 3]) {
+    // SAFETY: the pointers come from references with these lengths, which the library's
+    // promise covers for all bytes; it keeps none of them.
+    unsafe { c::market_risk_check(book.as_ptr(), book.len(), out.as_mut_ptr()) }
+}
+
+/// Number, row, book; the six charges; the total.
+pub fn charge(book: &[u8], out: &mut [u64; 10]) {
+    // SAFETY: as in `check`.
+    unsafe { c::market_risk_charge(book.as_ptr(), book.len(), out.as_mut_ptr()) }
+}
+
+/// Number, row, book; gross, vertical, zones 1, 2, 3, 1-2, 2-3, 1-3, residual, charge.
+pub fn interest_ladder(book: &[u8], group: usize, out: &mut [u64; 13]) {
+    // SAFETY: as in `check`; every group is allowed.
+    unsafe { c::market_risk_interest_ladder(book.as_ptr(), book.len(), group, out.as_mut_ptr()) }
+}
+
+/// Number, row, book; matches, carried, residual, charge.
+pub fn commodity_ladder(book: &[u8], group: usize, out: &mut [u64; 7]) {
+    // SAFETY: as in `check`; every group is allowed.
+    unsafe { c::market_risk_commodity_ladder(book.as_ptr(), book.len(), group, out.as_mut_ptr()) }
+}
+
+/// Number, row, book; the length of the joined book at the front of `out`.
+pub fn join(a: &[u8], b: &[u8], out: &mut [u8], result: &mut [u64; 4]) {
+    // SAFETY: as in `check`; `out` overlaps neither book, since it is borrowed alone.
+    unsafe {
+        c::market_risk_join(
+            a.as_ptr(),
+            a.len(),
+            b.as_ptr(),
+            b.len(),
+            out.as_mut_ptr(),
+            out.len(),
+            result.as_mut_ptr(),
+        )
+    }
+}

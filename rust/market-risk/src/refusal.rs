@@ -1,0 +1,73 @@
+//! Who is told no, and why.
+
+use std::error::Error;
+use std::fmt;
+
+/// A refused call: document 01's number, the row and the book.
+///
+/// ```
+/// let refusal = market_risk::check(&[]).unwrap_err();
+/// assert_eq!(refusal.to_string(), "refused 1: fewer than 8 bytes");
+/// ```
+#[derive(Clone, Copy, Debug, PartialEq, Eq)]
+pub struct Refusal {
+    /// 1 to 12.
+    pub number: u64,
+    /// The bad row, counted from 0 through the whole file; 0 for all but 4 to 9.
+    pub row: u64,
+    /// 1 for a fault of the second book of a join, else 0.
+    pub book: u64,
+}
+
+impl Refusal {
+    /// The refusal at the head of a result, if there is one.
+    pub(crate) fn of(out: &[u64]) -> Result<(), Refusal> {
+        match out[0] {
+            0 => Ok(()),
+            number => Err(Refusal {
+                number,
+                row: out[1],
+                book: out[2],
+            }),
+        }
+    }
+
+    /// Whether the refusal is of one row.
+    pub fn names_row(&self) -> bool {
+        (4..=9).contains(&self.number)
+    }
+
+    /// The reason in words.
+    pub fn reason(&self) -> &'static str {
+        match self.number {
+            1 => "fewer than 8 bytes",
+            2 => "more than 4,000 rows by the counts",
+            3 => "the length is not 8 bytes plus 16 for each row counted",
+            4 => "group over 31",
+            5 => "kind not of its class",
+            6 => "days out of their range",
+            7 => "coupon out of its range",
+            8 => "both amounts zero or both nonzero",
+            9 => "an amount over 1,000,000,000",
+            10 => "ladder group over 31",
+            11 => "more than 4,000 rows joined",
+            12 => "output shorter than the joined book",
+            _ => "no reason that this interface knows",
+        }
+    }
+}
+
+impl fmt::Display for Refusal {
+    fn fmt(&self, out: &mut fmt::Formatter) -> fmt::Result {
+        write!(out, "refused {}", self.number)?;
+        if self.names_row() {
+            write!(out, " row {}", self.row)?;
+        }
+        if self.book == 1 {
+            write!(out, " of the second book")?;
+        }
+        write!(out, ": {}", self.reason())
+    }
+}
+
+impl Error for Refusal {}

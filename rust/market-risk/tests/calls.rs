@@ -1,0 +1,87 @@
+//! The calls over the linked library: document 01's books, and every entry written.
+
+use market_risk::{charge, check, commodity_ladder, interest_ladder, join, joined, raw, Refusal};
+
+/// A government row of currency 7 at coupon 800, long above zero and short below.
+fn bond(days: u16, net: i32) -> [u8; 16] {
+    let mut row = [0; 16];
+    row[..2].copy_from_slice(&[7, 1]);
+    row[2..4].copy_from_slice(&days.to_le_bytes());
+    row[4..6].copy_from_slice(&800u16.to_le_bytes());
+    let at = if net > 0 { 8 } else { 12 };
+    row[at..at + 4].copy_from_slice(&net.unsigned_abs().to_le_bytes());
+    row
+}
+
+/// A book of interest rows.
+fn interest(rows: &[[u8; 16]]) -> Vec<u8> {
+    let mut book = vec![rows.len() as u8, 0, 0, 0, 0, 0, 0, 0];
+    book.extend(rows.concat());
+    book
+}
+
+#[test]
+fn e3_and_e4() {
+    let e3 = interest(&[bond(270, 75), bond(900, -30), bond(6000, 10)]);
+    let ladder = interest_ladder(&e3, 7).unwrap();
+    assert_eq!((ladder.gross, ladder.zones_1_2), (15_750, 5_250));
+    assert_eq!((ladder.residual, ladder.charge), (5_250, 735_000));
+    let a = interest(&[bond(270, 75), bond(900, -30)]);
+    let b = interest(&[bond(900, 30), bond(6000, -10)]);
+    let both = joined(&a, &b).unwrap();
+    assert_eq!(charge(&both).unwrap().total, 577_500);
+}
+
+#[test]
+fn refusals_carry_number_row_and_book() {
+    let bad = interest(&[bond(270, 75), bond(36_001, 1)]);
+    let refusal = Refusal {
+        number: 6,
+        row: 1,
+        book: 0,
+    };
+    assert_eq!(check(&bad), Err(refusal));
+    assert_eq!(charge(&bad), Err(refusal));
+    assert_eq!(interest_ladder(&bad, 7), Err(refusal));
+    assert_eq!(commodity_ladder(&bad, 7), Err(refusal));
+    let of_b = Refusal { book: 1, ..refusal };
+    assert_eq!(join(&[0; 8], &bad, &mut []), Err(of_b));
+    assert_eq!(
+        of_b.to_string(),
+        "refused 6 row 1 of the second book: days out of their range"
+    );
+    assert_eq!(joined(&[], &[]).unwrap_err().number, 1);
+}
+
+#[test]
+fn every_entry_is_written() {
+    let marked = u64::MAX;
+    let (mut three, mut ten, mut four) = ([marked; 3], [marked; 10], [marked; 4]);
+    let (mut thirteen, mut seven) = ([marked; 13], [marked; 7]);
+    for book in [&[0; 8][..], &[]] {
+        raw::check(book, &mut three);
+        raw::charge(book, &mut ten);
+        raw::interest_ladder(book, 31, &mut thirteen);
+        raw::commodity_ladder(book, 31, &mut seven);
+        raw::join(book, &[0; 8], &mut [0; 8], &mut four);
+        let entries = [&three[..], &ten, &thirteen, &seven, &four].concat();
+        assert!(!entries.contains(&marked));
+        [
+            &mut three[..],
+            &mut ten,
+            &mut thirteen,
+            &mut seven,
+            &mut four,
+        ]
+        .iter_mut()
+        .for_each(|out| out.fill(marked));
+    }
+}
+
+#[test]
+fn a_refused_join_writes_nothing() {
+    let one = interest(&[bond(270, 75)]);
+    let mut out = [9; 39];
+    assert_eq!(join(&one, &one, &mut out).unwrap_err().number, 12);
+    assert_eq!(out, [9; 39]);
+}

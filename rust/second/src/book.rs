@@ -1,0 +1,169 @@
+//! The book file: its rows, and who is told no.
+
+/// The four classes of rows, in file order.
+#[derive(Clone, Copy, Debug, PartialEq, Eq)]
+pub enum Class {
+    Interest,
+    Equity,
+    Exchange,
+    Commodity,
+}
+
+/// The classes in the order of their counts and bodies.
+const CLASSES: [Class; 4] = [
+    Class::Interest,
+    Class::Equity,
+    Class::Exchange,
+    Class::Commodity,
+];
+
+/// One row, as numbers wide enough for every later step.
+#[derive(Clone, Copy, Debug)]
+pub struct Row {
+    pub class: Class,
+    pub group: usize,
+    pub kind: u8,
+    pub days: i128,
+    pub coupon: i128,
+    pub long: i128,
+    pub short: i128,
+}
+
+impl Row {
+    /// The row's amount, whichever side it is on.
+    pub fn amount(&self) -> i128 {
+        self.long + self.short
+    }
+
+    /// The amount with its sign: longs above zero, shorts below.
+    pub fn net(&self) -> i128 {
+        self.long - self.short
+    }
+}
+
+/// Why a call was refused: document 01's number, the row and the book.
+/// All three are 0 when the call was accepted.
+#[derive(Clone, Copy, Debug, Default, PartialEq, Eq)]
+pub struct Refusal {
+    pub number: u64,
+    pub row: u64,
+    pub book: u64,
+}
+
+impl Refusal {
+    /// No refusal at all.
+    pub const NONE: Refusal = Refusal::of(0);
+
+    /// A refusal that names no row.
+    pub const fn of(number: u64) -> Refusal {
+        Refusal {
+            number,
+            row: 0,
+            book: 0,
+        }
+    }
+
+    /// Whether the call was accepted.
+    pub fn accepted(&self) -> bool {
+        self.number == 0
+    }
+}
+
+/// A number of up to eight bytes, low byte first.
+fn number(bytes: &[u8]) -> u64 {
+    bytes
+        .iter()
+        .rev()
+        .fold(0, |high, byte| high * 256 + u64::from(*byte))
+}
+
+/// The four row counts at the head of a file of at least eight bytes.
+pub fn counts(book: &[u8]) -> [u64; 4] {
+    [0, 2, 4, 6].map(|at| number(&book[at..at + 2]))
+}
+
+/// The fields of one 16-byte row of a class.
+fn decode(class: Class, bytes: &[u8]) -> Row {
+    Row {
+        class,
+        group: usize::from(bytes[0]),
+        kind: bytes[1],
+        days: i128::from(number(&bytes[2..4])),
+        coupon: i128::from(number(&bytes[4..6])),
+        long: i128::from(number(&bytes[8..12])),
+        short: i128::from(number(&bytes[12..16])),
+    }
+}
+
+/// The number of the first fault of a row, 4 to 9, or 0.
+fn row_fault(row: &Row) -> u64 {
+    const LIMIT: i128 = 1_000_000_000;
+    let (kinds, last_day, last_coupon) = match row.class {
+        Class::Interest => (1..=3, 36_000, 10_000),
+        Class::Equity => (1..=3, 0, 0),
+        Class::Exchange => (0..=0, 0, 0),
+        Class::Commodity => (0..=0, 36_000, 0),
+    };
+    let one_side = (row.long == 0) != (row.short == 0);
+    let faults = [
+        (4, row.group > 31),
+        (5, !kinds.contains(&row.kind)),
+        (6, row.days > last_day),
+        (7, row.coupon > last_coupon),
+        (8, !one_side),
+        (9, row.long > LIMIT || row.short > LIMIT),
+    ];
+    faults
+        .iter()
+        .find(|fault| fault.1)
+        .map_or(0, |fault| fault.0)
+}
+
+/// The number of the fault of the contents, 1 to 3, or 0.
+fn contents_fault(book: &[u8]) -> u64 {
+    if book.len() < 8 {
+        return 1;
+    }
+    let rows: u64 = counts(book).iter().sum();
+    if rows > 4_000 {
+        2
+    } else if book.len() as u64 != 8 + 16 * rows {
+        3
+    } else {
+        0
+    }
+}
+
+/// The rows of a file whose contents are in order, class after class.
+fn rows_of(book: &[u8]) -> Vec<Row> {
+    let classes = CLASSES
+        .iter()
+        .zip(counts(book))
+        .flat_map(|(class, count)| (0..count).map(|_| *class));
+    classes
+        .zip(book[8..].chunks(16))
+        .map(|(class, bytes)| decode(class, bytes))
+        .collect()
+}
+
+/// The rows of a book, or why it is refused.
+pub fn read(book: &[u8]) -> Result<Vec<Row>, Refusal> {
+    match contents_fault(book) {
+        0 => (),
+        fault => return Err(Refusal::of(fault)),
+    }
+    let rows = rows_of(book);
+    match rows.iter().position(|row| row_fault(row) != 0) {
+        None => Ok(rows),
+        Some(bad) => Err(Refusal {
+            number: row_fault(&rows[bad]),
+            row: bad as u64,
+            book: 0,
+        }),
+    }
+}
+
+/// Whether a book is accepted, and if not, why.
+pub fn check(book: &[u8]) -> Refusal {
+    read(book).err().unwrap_or(Refusal::NONE)
+}

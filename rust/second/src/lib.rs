@@ -1,0 +1,29 @@
+//! A second, independent calculation of document 01, to hold the proved one to.
+//!
+//! It is written for reading, not for speed: a book becomes a list of rows, each
+//! currency, market or commodity filters its own rows out of that list, and a net
+//! is one signed 128-bit number. It shares no table and no code with the library
+//! that it is compared with.
+
+mod bands;
+mod book;
+mod commodity;
+mod interest;
+mod join;
+mod open;
+mod report;
+
+pub use bands::{commodity_band, interest_band, zone_of_band};
+pub use book::{check, Refusal};
+pub use commodity::{commodity_ladder, CommodityLadder};
+pub use interest::{interest_ladder, zones_used, InterestLadder};
+pub use join::{join, Joined};
+pub use report::{charge, Report};
+
+/// Groups run from 0 to 31 in every class.
+pub const GROUPS: usize = 32;
+
+/// A figure as the calls give it. None is negative, and none comes near 2^64.
+fn figure(value: i128) -> u64 {
+    u64::try_from(value).expect("a figure lies between 0 and 2^64")
+}

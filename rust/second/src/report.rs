@@ -1,0 +1,51 @@
+//! The report of a book: six charges and their total, in mils.
+
+use crate::book::{read, Refusal, Row};
+use crate::{commodity, figure, interest, open};
+
+/// The refusal, the six charges and the total; all figures are zero on a refusal.
+#[derive(Clone, Copy, Debug, Default, PartialEq, Eq)]
+pub struct Report {
+    pub refusal: Refusal,
+    pub interest_specific: u64,
+    pub interest_general: u64,
+    pub equity_specific: u64,
+    pub equity_general: u64,
+    pub exchange: u64,
+    pub commodity: u64,
+    pub total: u64,
+}
+
+/// The report of the rows of an accepted book.
+fn report(rows: &[Row]) -> Report {
+    let charges = [
+        interest::specific(rows),
+        interest::general(rows),
+        open::equity_specific(rows),
+        open::equity_general(rows),
+        open::exchange(rows),
+        commodity::charge(rows),
+    ]
+    .map(figure);
+    Report {
+        refusal: Refusal::NONE,
+        interest_specific: charges[0],
+        interest_general: charges[1],
+        equity_specific: charges[2],
+        equity_general: charges[3],
+        exchange: charges[4],
+        commodity: charges[5],
+        total: charges.iter().sum(),
+    }
+}
+
+/// The report of a book.
+pub fn charge(book: &[u8]) -> Report {
+    match read(book) {
+        Ok(rows) => report(&rows),
+        Err(refusal) => Report {
+            refusal,
+            ..Report::default()
+        },
+    }
+}

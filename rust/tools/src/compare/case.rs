@@ -1,0 +1,120 @@
+//! One random case: two books, a group and the length of an output.
+
+use books::damage::damage;
+use books::generate::{book, Shape};
+use books::{csv, Book, Random};
+use std::fmt;
+
+/// What the five calls are given.
+#[derive(Clone, Debug, PartialEq, Eq)]
+pub struct Case {
+    pub a: Vec<u8>,
+    pub b: Vec<u8>,
+    /// The group of both ladder calls.
+    pub group: usize,
+    /// The length of join's output.
+    pub room: usize,
+    /// The seed of the order in which the sample of demand 3 puts rows.
+    pub order: u64,
+}
+
+/// How many rows two books have: mostly few, rarely as many as may be joined.
+fn sizes(random: &mut Random) -> [usize; 2] {
+    if random.once_in(48) {
+        let full = [
+            [4000, 0],
+            [4000, 1],
+            [3999, 1],
+            [2000, 2000],
+            [2000, 2001],
+            [1, 4000],
+        ];
+        return random.pick(&full);
+    }
+    let most = if random.once_in(24) { 300 } else { 9 };
+    [0; 2].map(|_| random.below(most) as usize)
+}
+
+/// A group: one of a row, any, or one past the end.
+fn group(random: &mut Random, a: &[u8]) -> usize {
+    let rows = a.len().saturating_sub(8) / 16;
+    match random.below(8) {
+        0 => random.pick(&[0, 31, 32, 33, 255, 256, 1 << 32, usize::MAX]),
+        1 => random.below(32) as usize,
+        _ if rows > 0 => usize::from(a[8 + 16 * random.below(rows as u64) as usize]),
+        _ => 0,
+    }
+}
+
+/// A length of the output, mostly next to the joined length.
+fn room(random: &mut Random, joined: usize) -> usize {
+    match random.below(8) {
+        0 => random.pick(&[0, 7, 8, 9, 64_008, 65_536]),
+        1 => random.below(joined as u64 + 1) as usize,
+        2 => joined.saturating_sub(1),
+        3 => joined + 1,
+        4 => joined + random.below(100) as usize,
+        _ => joined,
+    }
+}
+
+impl Case {
+    /// The case with this number of a seed.
+    pub fn new(seed: u64, number: u64) -> Case {
+        let mut random = Random::of_case(seed, number);
+        let mut shape = Shape::new(&mut random, 0);
+        let [a, b] = sizes(&mut random).map(|rows| {
+            shape.rows = rows;
+            let mut bytes = book(&mut random, &shape)
+                .encode()
+                .expect("at most 4,000 rows");
+            let hits = [0, 0, 0, 1, 1, 2, 4][random.below(7) as usize];
+            (0..hits).for_each(|_| damage(&mut random, &mut bytes));
+            bytes
+        });
+        Case {
+            group: group(&mut random, &a),
+            room: room(&mut random, (a.len() + b.len()).saturating_sub(8)),
+            order: random.draw(),
+            a,
+            b,
+        }
+    }
+}
+
+/// A file in hex and, where it has rows, as CSV.
+fn show(name: &str, bytes: &[u8]) -> String {
+    let hex: String = bytes.iter().map(|byte| format!("{byte:02x}")).collect();
+    let rows = Book::decode(bytes).map(|book| csv::write(&book));
+    let rows = rows.unwrap_or_else(|| "(the length does not agree with the counts)\n".into());
+    format!("book {name}, {} bytes: {hex}\n{rows}", bytes.len())
+}
+
+impl fmt::Display for Case {
+    fn fmt(&self, out: &mut fmt::Formatter) -> fmt::Result {
+        let Case { group, room, .. } = self;
+        let (a, b) = (show("A", &self.a), show("B", &self.b));
+        write!(out, "group {group}, output of {room} bytes\n{a}{b}")
+    }
+}
+
+#[cfg(test)]
+mod tests {
+    use super::*;
+
+    #[test]
+    fn a_case_is_made_by_itself() {
+        assert_eq!(Case::new(3, 900), Case::new(3, 900));
+        assert_ne!(Case::new(3, 900).a, Case::new(4, 900).a);
+    }
+
+    #[test]
+    fn a_case_is_shown_in_hex_and_as_csv() {
+        let mut case = Case::new(1, 1);
+        case.a = vec![0; 8];
+        case.b = vec![1, 2];
+        let text = case.to_string();
+        assert!(text.contains("book A, 8 bytes: 0000000000000000\nclass,group,"));
+        assert!(text.contains("book B, 2 bytes: 0102\n(the length"));
+    }
+}

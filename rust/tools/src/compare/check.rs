@@ -1,0 +1,76 @@
+//! All five calls on one case, entry by entry and byte by byte.
+
+use super::case::Case;
+use crate::calls::Calls;
+
+/// What stands in a result before a call, which no figure equals.
+const MARK: u64 = 0xa5a5_a5a5_a5a5_a5a5;
+
+/// The bytes before and after an output that must keep their values.
+const GUARD: usize = 32;
+
+/// Both results of a call, where they are not the same.
+fn unequal(call: &str, library: &[u64], other: &[u64]) -> Option<String> {
+    let differ = library != other;
+    differ
+        .then(|| format!("{call}: the library gives {library:?}, the second calculation {other:?}"))
+}
+
+/// Runs one call of both calculations and compares what they write.
+fn both<const N: usize>(
+    call: &str,
+    calculations: [&dyn Calls; 2],
+    run: impl Fn(&dyn Calls, &mut [u64; N]),
+) -> Option<String> {
+    let [library, other] = calculations.map(|calculation| {
+        let mut out = [MARK; N];
+        run(calculation, &mut out);
+        out
+    });
+    unequal(call, &library, &other)
+}
+
+/// The output of a join, between guards, and its result.
+fn joined(calls: &dyn Calls, case: &Case) -> (Vec<u8>, [u64; 4]) {
+    let pattern = |at: usize| (at * 7 + 0xa5) as u8;
+    let mut bytes: Vec<u8> = (0..case.room + 2 * GUARD).map(pattern).collect();
+    let mut result = [MARK; 4];
+    let out = &mut bytes[GUARD..GUARD + case.room];
+    calls.join(&case.a, &case.b, out, &mut result);
+    (bytes, result)
+}
+
+/// Joins with both calculations and compares all results and all bytes.
+fn join(library: &dyn Calls, other: &dyn Calls, case: &Case) -> Option<String> {
+    let (ours, result) = joined(library, case);
+    let (theirs, expected) = joined(other, case);
+    unequal("join", &result, &expected).or_else(|| {
+        let at = ours.iter().zip(&theirs).position(|(one, two)| one != two)?;
+        let place = at as i64 - GUARD as i64;
+        let (one, two) = (ours[at], theirs[at]);
+        Some(format!(
+            "join: output byte {place} is {one} by the library and {two} by the second calculation"
+        ))
+    })
+}
+
+/// The first difference of a case, in words.
+pub fn difference(library: &dyn Calls, other: &dyn Calls, case: &Case) -> Option<String> {
+    let calculations = [library, other];
+    let group = case.group;
+    let book = |book: &[u8]| {
+        both("check", calculations, |calls, out| calls.check(book, out))
+            .or_else(|| both("charge", calculations, |calls, out| calls.charge(book, out)))
+            .or_else(|| {
+                both("interest ladder", calculations, |calls, out| {
+                    calls.interest_ladder(book, group, out);
+                })
+            })
+            .or_else(|| {
+                both("commodity ladder", calculations, |calls, out| {
+                    calls.commodity_ladder(book, group, out);
+                })
+            })
+    };
+    book(&case.a).or_else(|| join(library, other, case))
+}

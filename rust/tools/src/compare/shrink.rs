@@ -1,0 +1,113 @@
+//! The smallest case that still fails, as far as simple cuts lead.
+
+use super::case::Case;
+use super::cuts::cuts;
+
+/// How many cuts are tried at most: full books that cannot be cut have very many.
+const MOST_TRIES: usize = 10_000;
+
+/// The smaller cases next to a case. The output keeps its distance from the joined length.
+fn smaller(case: &Case) -> impl Iterator<Item = Case> + '_ {
+    let with = |a: Vec<u8>, b: Vec<u8>| {
+        let less = (case.a.len() + case.b.len()).saturating_sub(a.len() + b.len());
+        let room = case.room.saturating_sub(less);
+        Case {
+            a,
+            b,
+            room,
+            ..case.clone()
+        }
+    };
+    let plain = |group: usize, room: usize| Case {
+        group,
+        room,
+        ..case.clone()
+    };
+    let of_b = cuts(&case.b).map(move |b| with(case.a.clone(), b));
+    let of_a = cuts(&case.a).map(move |a| with(a, case.b.clone()));
+    let numbers = [plain(0, case.room), plain(case.group, 0)].into_iter();
+    let numbers = numbers.filter(move |plain| plain != case);
+    numbers.chain(of_b).chain(of_a)
+}
+
+/// Cuts a failing case for as long as a cut still fails.
+pub fn shrink(case: &Case, fails: &mut dyn FnMut(&Case) -> bool) -> Case {
+    shrink_within(MOST_TRIES, case, fails)
+}
+
+/// The same with so many tries.
+fn shrink_within(tries: usize, case: &Case, fails: &mut dyn FnMut(&Case) -> bool) -> Case {
+    let mut smallest = case.clone();
+    let mut left = tries;
+    loop {
+        let mut tried = 0;
+        let next = smaller(&smallest).take(left).find(|case| {
+            tried += 1;
+            fails(case)
+        });
+        left -= tried;
+        match next {
+            Some(next) => smallest = next,
+            None => return smallest,
+        }
+    }
+}
+
+#[cfg(test)]
+mod tests {
+    use super::*;
+    use books::{Book, Row};
+
+    /// A case whose first book has so many interest rows and commodity rows.
+    fn case(interest: usize, commodity: usize) -> Case {
+        let row = Row::default().with_group(9).with_kind(3).with_days(77);
+        let row = row.with_issue(5).with_sides(1234, 0);
+        let mut book = Book::default();
+        book.classes[0] = vec![row; interest];
+        book.classes[3] = vec![row.with_kind(0); commodity];
+        Case {
+            a: book.encode().unwrap(),
+            b: vec![9; 40],
+            group: 9,
+            room: 500,
+            order: 1,
+        }
+    }
+
+    #[test]
+    fn only_what_matters_is_left() {
+        let matters = |case: &Case| {
+            let book = Book::decode(&case.a).unwrap_or_default();
+            let large = book.classes[3].iter().filter(|row| row.long > 100);
+            large.count() >= 2
+        };
+        let smallest = shrink(&case(30, 20), &mut |case| matters(case));
+        let plain = Row::default().with_kind(1).with_sides(101, 0);
+        let book = Book::decode(&smallest.a).unwrap();
+        assert_eq!(book.rows(), 2);
+        assert_eq!(book.classes[3], [plain; 2]);
+        let left = (smallest.b.len(), smallest.group, smallest.room);
+        assert_eq!(left, (0, 0, 0));
+    }
+
+    #[test]
+    fn a_file_without_rows_is_cut_too() {
+        let mut odd = case(3, 3);
+        odd.a.push(1);
+        let smallest = shrink(&odd, &mut |case| case.a.len() > 20 && case.a.contains(&3));
+        assert_eq!(smallest.a.len(), 21);
+        assert_eq!(smallest.a.iter().filter(|byte| **byte != 0).count(), 1);
+    }
+
+    #[test]
+    fn a_full_book_that_cannot_be_cut_ends_the_search() {
+        let full = case(4_000, 0);
+        let mut tries = 0;
+        let smallest = shrink_within(100, &full, &mut |case| {
+            tries += 1;
+            case.a == full.a
+        });
+        assert_eq!(smallest.a, full.a);
+        assert_eq!(tries, 100);
+    }
+}

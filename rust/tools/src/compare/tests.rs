@@ -1,0 +1,132 @@
+//! The comparison finds faults, and finds small books for them.
+
+use super::case::Case;
+use super::{check, difference, explain, laws};
+use crate::calls::{Calls, Second};
+
+/// A calculation with one fault.
+#[derive(Clone, Copy, PartialEq)]
+enum Fault {
+    None,
+    /// A commodity charge is one mil too high when much is carried.
+    Carried,
+    /// The report's last entry is not written.
+    Unwritten,
+    /// Join writes one byte past the joined book.
+    PastTheEnd,
+    /// A refused join writes its first byte.
+    RefusedWrites,
+    /// The charge looks at which row comes first.
+    Order,
+    /// The charge looks at which side is long.
+    Side,
+    /// The charge of many rows is dearer than that of their parts.
+    Dear,
+}
+
+struct Faulty(Fault);
+
+impl Calls for Faulty {
+    fn check(&self, book: &[u8], out: &mut [u64; 3]) {
+        Second.check(book, out);
+    }
+
+    fn charge(&self, book: &[u8], out: &mut [u64; 10]) {
+        let last = out[9];
+        Second.charge(book, out);
+        if out[0] != 0 || book.len() < 24 {
+            return;
+        }
+        match self.0 {
+            Fault::Unwritten => out[9] = last,
+            Fault::Order => out[3] += u64::from(book[14]),
+            Fault::Side => out[3] += u64::from(book[16]),
+            Fault::Dear => out[9] += book.len() as u64 * book.len() as u64,
+            _ => (),
+        }
+    }
+
+    fn interest_ladder(&self, book: &[u8], group: usize, out: &mut [u64; 13]) {
+        Second.interest_ladder(book, group, out);
+    }
+
+    fn commodity_ladder(&self, book: &[u8], group: usize, out: &mut [u64; 7]) {
+        Second.commodity_ladder(book, group, out);
+        if self.0 == Fault::Carried && out[4] > 1000 {
+            out[6] += 1;
+        }
+    }
+
+    fn join(&self, a: &[u8], b: &[u8], out: &mut [u8], result: &mut [u64; 4]) {
+        Second.join(a, b, out, result);
+        let length = result[3] as usize;
+        if self.0 == Fault::PastTheEnd && result[0] == 0 && length < out.len() {
+            out[length] ^= 1;
+        }
+        if self.0 == Fault::RefusedWrites && result[0] == 12 && !out.is_empty() {
+            out[0] ^= 1;
+        }
+    }
+}
+
+/// The first case of a seed on which a calculation differs from the second one.
+fn found(fault: Fault) -> Option<(u64, Case)> {
+    let differs = |case: &Case| difference(&Faulty(fault), &Second, case).is_some();
+    (0..3_000)
+        .map(|number| (number, Case::new(1, number)))
+        .find(|(_, case)| differs(case))
+}
+
+#[test]
+fn no_fault_is_found_where_there_is_none() {
+    assert!((0..300).all(|number| difference(
+        &Faulty(Fault::None),
+        &Second,
+        &Case::new(1, number)
+    )
+    .is_none()));
+}
+
+#[test]
+fn every_fault_is_found() {
+    let faults = [
+        Fault::Carried,
+        Fault::Unwritten,
+        Fault::PastTheEnd,
+        Fault::RefusedWrites,
+        Fault::Order,
+        Fault::Side,
+        Fault::Dear,
+    ];
+    assert!(faults.iter().all(|fault| found(*fault).is_some()));
+}
+
+#[test]
+fn the_laws_alone_find_what_the_figures_of_one_book_cannot() {
+    for (fault, words) in [
+        (Fault::Order, "reordered"),
+        (Fault::Side, "mirrored"),
+        (Fault::Dear, "joined, total is"),
+    ] {
+        let broken = |number| laws::broken(&Faulty(fault), &Case::new(1, number));
+        let first = (0..3_000)
+            .filter_map(broken)
+            .find(|what| what.contains(words));
+        assert!(first.is_some(), "{words}");
+    }
+}
+
+#[test]
+fn a_difference_is_shown_with_a_small_book() {
+    let (number, case) = found(Fault::Carried).unwrap();
+    assert!(check::difference(&Faulty(Fault::Carried), &Second, &case).is_some());
+    let text = explain(&Faulty(Fault::Carried), &Second, &case, number, 1);
+    assert!(text.starts_with(&format!(
+        "pair {number} of seed 1 differs\ncommodity ladder: "
+    )));
+    assert!(
+        text.contains("group 0, output of 0 bytes\nbook A, 24 bytes: "),
+        "{text}"
+    );
+    assert!(text.contains("\ncommodity,0,none,0,0,0,"), "{text}");
+}

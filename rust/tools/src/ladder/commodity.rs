@@ -1,0 +1,111 @@
+//! The ladder of one commodity as a table.
+
+use super::bands::{band, span, COMMODITY};
+use super::same;
+use crate::text::{mils, table, whole};
+use books::Row;
+use market_risk::CommodityLadder;
+
+/// One band: its own longs and shorts, what came in, the match, what goes on.
+#[derive(Clone, Copy, Default)]
+struct Band {
+    long: i128,
+    short: i128,
+    carried_in: i128,
+    matched: i128,
+    net: i128,
+}
+
+/// The bands of one commodity, nearest first.
+fn bands(rows: &[Row], group: u64) -> [Band; 7] {
+    let mut bands = [Band::default(); 7];
+    for row in rows.iter().filter(|row| u64::from(row.group) == group) {
+        let at = band(&COMMODITY, row.days);
+        bands[at].long += i128::from(row.long);
+        bands[at].short += i128::from(row.short);
+    }
+    let mut carried = 0i128;
+    for band in &mut bands {
+        let long = band.long + carried.max(0);
+        let short = band.short + (-carried).max(0);
+        band.carried_in = carried;
+        band.matched = long.min(short);
+        band.net = long - short;
+        carried = band.net;
+    }
+    bands
+}
+
+/// Fails where the bands do not lead to the library's figures.
+fn cross_check(bands: &[Band; 7], ladder: &CommodityLadder) -> Result<(), String> {
+    let matches: i128 = bands.iter().map(|band| band.matched).sum();
+    let carried: i128 = bands.iter().map(|band| band.carried_in.abs()).sum();
+    let residual = bands[6].net.abs();
+    same("matches", matches, ladder.matches)?;
+    same("carried", carried, ladder.carried)?;
+    same("residual", residual, ladder.residual)?;
+    let charge = 30_000 * matches + 6_000 * carried + 150_000 * residual;
+    same("charge", charge, ladder.charge)?;
+    let gross: i128 = bands.iter().map(|band| band.long + band.short).sum();
+    let net: i128 = bands.iter().map(|band| band.long - band.short).sum();
+    same(
+        "gross less twice the matches",
+        gross - 2 * matches,
+        ladder.residual,
+    )?;
+    same("the net of all bands", net.abs(), ladder.residual)
+}
+
+/// The table of bands.
+fn band_table(bands: &[Band; 7]) -> String {
+    let titles = [
+        "band",
+        "days",
+        "long",
+        "short",
+        "carried in",
+        "matched",
+        "net",
+    ];
+    let mut lines = vec![titles.map(String::from).to_vec()];
+    for (number, band) in bands.iter().enumerate() {
+        lines.push(vec![
+            number.to_string(),
+            span(&COMMODITY, number),
+            whole(band.long),
+            whole(band.short),
+            whole(band.carried_in),
+            whole(band.matched),
+            whole(band.net),
+        ]);
+    }
+    table(&lines)
+}
+
+/// The ladder of one commodity, or where it disagrees with the library.
+pub fn show(rows: &[Row], group: u64, ladder: &CommodityLadder) -> Result<String, String> {
+    let bands = bands(rows, group);
+    cross_check(&bands, ladder)?;
+    let line = |name: &str, sum: u64, rate: &str, mils_each: i128| {
+        let charge = mils(i128::from(sum) * mils_each);
+        vec![name.into(), whole(sum), rate.into(), charge]
+    };
+    let blank = String::new;
+    let steps = [
+        ["", "sum", "rate", "charge"].map(String::from).to_vec(),
+        line(
+            "matches, each on two sides",
+            ladder.matches,
+            "2 x 1.5%",
+            30_000,
+        ),
+        line("carried, at every step", ladder.carried, "0.6%", 6_000),
+        line("residual", ladder.residual, "15%", 150_000),
+        vec!["charge".into(), blank(), blank(), mils(ladder.charge)],
+    ];
+    Ok(format!(
+        "commodity {group}: amounts in thousands, charges in currency units\n\n{}\n{}",
+        band_table(&bands),
+        table(&steps)
+    ))
+}

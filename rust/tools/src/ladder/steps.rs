@@ -1,0 +1,115 @@
+//! The steps of the interest ladder, from the rows of one currency.
+
+use super::bands::{band, LOW_COUPON, ORDINARY, ZONES};
+use super::same;
+use books::Row;
+use market_risk::InterestLadder;
+
+/// Longs and shorts.
+pub type Sides = (i128, i128);
+
+/// One step of the ladder: what stood against what, and what was matched.
+pub struct Step {
+    pub name: &'static str,
+    pub sides: Option<Sides>,
+    pub matched: i128,
+    pub per_cent: i128,
+}
+
+/// The amounts of each band of one currency.
+pub fn amounts(rows: &[Row], group: u64) -> [Sides; 15] {
+    let mut bands = [(0, 0); 15];
+    for row in rows.iter().filter(|row| u64::from(row.group) == group) {
+        let column = match row.coupon {
+            300.. => &ORDINARY[..],
+            _ => &LOW_COUPON[..],
+        };
+        let sides = &mut bands[band(column, row.days)];
+        sides.0 += i128::from(row.long);
+        sides.1 += i128::from(row.short);
+    }
+    bands
+}
+
+/// The longs and the shorts among nets.
+fn sides(nets: &[i128]) -> Sides {
+    let longs = nets.iter().map(|net| 0.max(*net)).sum();
+    let shorts = nets.iter().map(|net| 0.max(-*net)).sum();
+    (longs, shorts)
+}
+
+/// Sets nets against each other.
+fn step(name: &'static str, nets: &[i128], per_cent: i128) -> Step {
+    let (long, short) = sides(nets);
+    Step {
+        name,
+        sides: Some((long, short)),
+        matched: long.min(short),
+        per_cent,
+    }
+}
+
+/// Sets two zones against each other and takes the match off both.
+fn between(name: &'static str, zones: &mut [i128; 3], of: [usize; 2], per_cent: i128) -> Step {
+    let step = step(name, &of.map(|zone| zones[zone]), per_cent);
+    for zone in of {
+        zones[zone] -= step.matched * zones[zone].signum();
+    }
+    step
+}
+
+/// All steps from the weighted bands, and the signed rest.
+pub fn steps(bands: &[Sides; 15]) -> (Vec<Step>, i128) {
+    let nets = bands.map(|(long, short)| long - short);
+    let vertical = Step {
+        name: "within bands",
+        sides: None,
+        matched: bands.iter().map(|(long, short)| long.min(short)).sum(),
+        per_cent: 10,
+    };
+    let zone = |zone: usize| &nets[ZONES[zone].clone()];
+    let mut zones = [0, 1, 2].map(|number| zone(number).iter().sum());
+    let steps = vec![
+        vertical,
+        step("within zone 1", zone(0), 40),
+        step("within zone 2", zone(1), 30),
+        step("within zone 3", zone(2), 30),
+        between("zones 1 and 2", &mut zones, [0, 1], 40),
+        between("zones 2 and 3", &mut zones, [1, 2], 40),
+        between("zones 1 and 3", &mut zones, [0, 2], 100),
+    ];
+    (steps, zones.iter().sum())
+}
+
+/// Fails where the bands do not lead to the library's figures.
+pub fn cross_check(
+    bands: &[Sides; 15],
+    steps: &[Step],
+    rest: i128,
+    ladder: &InterestLadder,
+) -> Result<(), String> {
+    let [zone_1, zone_2, zone_3] = ladder.zones;
+    let matches = [
+        ladder.vertical,
+        zone_1,
+        zone_2,
+        zone_3,
+        ladder.zones_1_2,
+        ladder.zones_2_3,
+        ladder.zones_1_3,
+    ];
+    let gross: i128 = bands.iter().map(|(long, short)| long + short).sum();
+    same("gross", gross, ladder.gross)?;
+    for (step, library) in steps.iter().zip(matches) {
+        same(step.name, step.matched, library)?;
+    }
+    same("residual", rest.abs(), ladder.residual)?;
+    let disallowed: i128 = steps.iter().map(|step| step.matched * step.per_cent).sum();
+    same("charge", disallowed + 100 * rest.abs(), ladder.charge)?;
+    let matched: i128 = steps.iter().map(|step| step.matched).sum();
+    same(
+        "twice the matches and the residual",
+        2 * matched + rest.abs(),
+        ladder.gross,
+    )
+}

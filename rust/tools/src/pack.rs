@@ -1,0 +1,98 @@
+//! `pack`: CSV text into a book.
+
+use crate::cli::{no, read, usage, write, Args, Command, Failure, Outcome};
+use books::csv::{parse, Parsed};
+use books::MOST_ROWS;
+use market_risk::Refusal;
+
+pub const COMMAND: Command = Command {
+    name: "pack",
+    brief: "a CSV file into a book",
+    help: "market-risk pack CSV BOOK [--unchecked]
+
+Writes the rows of a CSV file as a book. Its first line must be exactly
+
+  class,group,kind,days,coupon,issue,long,short
+
+and each other line is one row; blank lines are passed over.
+
+  class   interest, equity, fx or commodity
+  kind    interest: government, qualifying, other
+          equity: ordinary, diversified, index
+          fx, commodity: none
+  others  whole numbers: coupon in basis points, long and short in thousands
+
+Lines may mix classes: rows are sorted by class and keep their order within it.
+A book that the library refuses is not written, and the error names the line.
+
+  --unchecked   write the book even if it would be refused; a kind that the
+                class does not know may then be given by its number
+",
+    options: &[],
+    flags: &["--unchecked"],
+    run,
+};
+
+/// A refusal in the words of the text: the line in the place of the row.
+fn refused(parsed: &Parsed, refusal: Refusal) -> String {
+    let line = match refusal.number {
+        2 => {
+            let mut lines = parsed.lines.clone();
+            lines.sort_unstable();
+            lines.get(MOST_ROWS).copied()
+        }
+        4..=9 => parsed.lines.get(refusal.row as usize).copied(),
+        _ => None,
+    };
+    match line {
+        Some(line) => format!(
+            "line {line}: refused {}: {}",
+            refusal.number,
+            refusal.reason()
+        ),
+        None => refusal.to_string(),
+    }
+}
+
+/// The book of a CSV text.
+fn pack(text: &str, unchecked: bool) -> Result<Vec<u8>, String> {
+    let parsed = parse(text).map_err(|error| error.to_string())?;
+    let most = "a class has more than 65,535 rows";
+    let bytes = parsed.book.encode().ok_or(most)?;
+    match market_risk::check(&bytes) {
+        Err(refusal) if !unchecked => Err(refused(&parsed, refusal)),
+        _ => Ok(bytes),
+    }
+}
+
+fn run(args: &Args) -> Outcome {
+    let [from, to] = args.files()?;
+    let text = String::from_utf8(read(from)?);
+    let text = text.map_err(|_| usage(&format!("{from}: not UTF-8 text")))?;
+    let named = |what: String| -> Failure { no(format!("{from}: {what}")) };
+    let bytes = pack(&text, args.flag("--unchecked")).map_err(named)?;
+    write(to, &bytes)
+}
+
+#[cfg(test)]
+mod tests {
+    use super::*;
+    use books::csv::HEADER;
+
+    #[test]
+    fn a_refusal_names_the_line() {
+        let text = format!("{HEADER}\nfx,40,none,0,0,0,5,0\n\ninterest,1,other,0,0,0,0,0\n");
+        let what = pack(&text, false).unwrap_err();
+        assert_eq!(what, "line 4: refused 8: both amounts zero or both nonzero");
+        assert_eq!(pack(&text, true).unwrap().len(), 40);
+    }
+
+    #[test]
+    fn one_row_too_many_names_its_line() {
+        let row = "fx,1,none,0,0,0,5,0\n";
+        let most = format!("{HEADER}\n{}", row.repeat(MOST_ROWS));
+        assert!(pack(&most, false).is_ok());
+        let more = pack(&format!("{most}{row}"), false).unwrap_err();
+        assert!(more.starts_with("line 4002: refused 2"), "{more}");
+    }
+}

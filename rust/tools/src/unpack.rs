@@ -1,0 +1,30 @@
+//! `unpack`: a book into CSV text.
+
+use crate::cli::{no, read, write, Args, Command, Outcome};
+use books::{csv, Book};
+
+pub const COMMAND: Command = Command {
+    name: "unpack",
+    brief: "a book into a CSV file",
+    help: "market-risk unpack BOOK CSV
+
+Writes the rows of a book as a CSV file that pack takes back. Rows that the library
+refuses are written as they are; a kind that the class does not know is its number.
+A file whose length does not agree with its counts has no rows and is an error.
+",
+    options: &[],
+    flags: &[],
+    run,
+};
+
+fn run(args: &Args) -> Outcome {
+    let [from, to] = args.files()?;
+    let bytes = read(from)?;
+    let Some(book) = Book::decode(&bytes) else {
+        let why = "the length does not agree with the counts";
+        let why =
+            market_risk::check(&bytes).map_or_else(|refusal| refusal.to_string(), |()| why.into());
+        return Err(no(format!("{from}: {why}")));
+    };
+    write(to, csv::write(&book).as_bytes())
+}

@@ -1,0 +1,88 @@
+//! Calls and books put together by hand.
+
+use books::{Book, Row};
+
+/// A call, with what it is given besides its first book.
+#[derive(Clone, Debug, PartialEq, Eq)]
+pub enum Call {
+    Check,
+    Charge,
+    InterestLadder(u16),
+    CommodityLadder(u16),
+    Join { other: Vec<u8>, room: u32 },
+}
+
+/// One stored call.
+#[derive(Clone, Debug, PartialEq, Eq)]
+pub struct Case {
+    pub call: Call,
+    pub book: Vec<u8>,
+}
+
+/// A call of a book.
+pub fn call(call: Call, book: &[u8]) -> Case {
+    Case {
+        call,
+        book: book.to_vec(),
+    }
+}
+
+/// A join with so much room.
+pub fn join(a: &[u8], b: &[u8], room: usize) -> Case {
+    let room = u32::try_from(room).expect("an output of at most 65,536 bytes");
+    call(
+        Call::Join {
+            other: b.to_vec(),
+            room,
+        },
+        a,
+    )
+}
+
+/// The check and the charge of a book, and both ladders of each of some groups.
+pub fn all_calls(book: &[u8], groups: &[u16]) -> Vec<Case> {
+    let mut calls = vec![Call::Check, Call::Charge];
+    for group in groups {
+        calls.push(Call::InterestLadder(*group));
+        calls.push(Call::CommodityLadder(*group));
+    }
+    calls.into_iter().map(|which| call(which, book)).collect()
+}
+
+/// A row with one signed amount: long above zero, short below.
+pub fn row(group: u8, kind: u8, days: u16, coupon: u16, net: i64) -> Row {
+    let amount = u32::try_from(net.unsigned_abs()).expect("an amount of four bytes");
+    let long = if net > 0 { amount } else { 0 };
+    Row {
+        group,
+        kind,
+        days,
+        coupon,
+        issue: 0,
+        long,
+        short: amount - long,
+    }
+}
+
+/// A row that its class accepts.
+pub fn clean(class: usize) -> Row {
+    match class {
+        0 => row(1, 2, 400, 500, 10),
+        1 => row(2, 2, 0, 0, -20),
+        2 => row(3, 0, 0, 0, 30),
+        _ => row(4, 0, 400, 0, -40),
+    }
+}
+
+/// The bytes of four bodies.
+pub fn book(classes: [&[Row]; 4]) -> Vec<u8> {
+    let classes = classes.map(<[Row]>::to_vec);
+    Book { classes }.encode().expect("counts of two bytes")
+}
+
+/// A book of one class alone.
+pub fn only(class: usize, rows: &[Row]) -> Vec<u8> {
+    let mut classes: [&[Row]; 4] = [&[]; 4];
+    classes[class] = rows;
+    book(classes)
+}

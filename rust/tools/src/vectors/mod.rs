@@ -1,0 +1,133 @@
+//! `vectors`: the stored calls of the program `vectors`, and what it must write.
+
+mod answers;
+mod bands;
+mod build;
+mod faults;
+mod full;
+mod joins;
+mod ladders;
+mod random;
+mod stream;
+mod worked;
+
+use crate::cli::{no, print, read, usage, write, Args, Command, Outcome};
+use build::Case;
+
+pub const COMMAND: Command = Command {
+    name: "vectors",
+    brief: "the stored input and expected output of the program vectors",
+    help: "market-risk vectors [--seed S] --write DIR
+market-risk vectors [--seed S] --check DIR
+
+Makes the calls of the program vectors: DIR/stdin, a stream of calls with their books,
+and DIR/stdout, one line a call, as the second calculation answers it. docs/VECTORS.md
+has the form of both.
+
+  --seed S      the seed of the random books among them, 1 if not given
+  --write DIR   write both files
+  --check DIR   exit with status 1 if either file is not what --write would write
+",
+    options: &["--seed", "--write", "--check"],
+    flags: &[],
+    run,
+};
+
+/// All stored calls, in order.
+fn cases(seed: u64) -> Vec<Case> {
+    [
+        worked::cases(),
+        faults::cases(),
+        bands::cases(),
+        ladders::cases(),
+        joins::cases(),
+        full::cases(),
+        random::cases(seed),
+    ]
+    .concat()
+}
+
+/// The two files, by name.
+fn files(seed: u64) -> [(&'static str, Vec<u8>); 2] {
+    let cases = cases(seed);
+    [
+        ("stdin", stream::encode(&cases)),
+        ("stdout", answers::lines(&cases).into_bytes()),
+    ]
+}
+
+fn run(args: &Args) -> Outcome {
+    let [] = args.files()?;
+    let files = files(args.number("--seed")?.unwrap_or(1));
+    match (args.value("--write"), args.value("--check")) {
+        (Some(folder), None) => {
+            for (name, bytes) in &files {
+                write(&format!("{folder}/{name}"), bytes)?;
+                print(&format!("{folder}/{name}: {} bytes\n", bytes.len()))?;
+            }
+            Ok(())
+        }
+        (None, Some(folder)) => {
+            for (name, bytes) in &files {
+                let path = format!("{folder}/{name}");
+                if read(&path)? != *bytes {
+                    return Err(no(format!(
+                        "{path} is not current: run vectors --write {folder}"
+                    )));
+                }
+            }
+            print(&format!("{folder}: both files are current\n"))
+        }
+        _ => Err(usage("vectors: give one of --write DIR and --check DIR")),
+    }
+}
+
+#[cfg(test)]
+mod tests {
+    use super::*;
+    use build::Call;
+    use std::collections::HashSet;
+
+    #[test]
+    fn the_set_is_large_and_the_files_are_small() {
+        let cases = cases(1);
+        let mut books: HashSet<&[u8]> = cases.iter().map(|case| &case.book[..]).collect();
+        books.extend(cases.iter().filter_map(|case| match &case.call {
+            Call::Join { other, .. } => Some(&other[..]),
+            _ => None,
+        }));
+        assert!(books.len() >= 300, "{} books", books.len());
+        let [(_, stdin), (_, stdout)] = files(1);
+        assert!(stdin.len() < 300_000, "{} bytes", stdin.len());
+        assert!(stdout.len() < 300_000, "{} bytes", stdout.len());
+    }
+
+    #[test]
+    fn every_call_meets_every_refusal_of_its_own() {
+        let lines = answers::lines(&cases(1));
+        let seen = |call: &str, number: usize| {
+            lines
+                .lines()
+                .any(|line| line.starts_with(&format!("{call} {number} ")))
+        };
+        for number in 0..=9 {
+            for call in [
+                "check",
+                "charge",
+                "interest-ladder",
+                "commodity-ladder",
+                "join",
+            ] {
+                assert!(seen(call, number), "{call} {number}");
+            }
+        }
+        assert!(seen("interest-ladder", 10) && seen("commodity-ladder", 10));
+        assert!(seen("join", 11) && seen("join", 12));
+    }
+
+    #[test]
+    fn a_seed_gives_one_pair_of_files() {
+        assert_eq!(files(4), files(4));
+        assert_ne!(files(4), files(5));
+    }
+}

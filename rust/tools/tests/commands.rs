@@ -1,0 +1,157 @@
+//! The command as a user meets it: files in, text out, exit status.
+
+mod common;
+
+use common::{fails, packed, prints, sample, temporary};
+use std::fs;
+
+#[test]
+fn help_for_all_and_each() {
+    let all = prints(&["--help"]);
+    for command in [
+        "pack", "unpack", "report", "ladder", "join", "compare", "bench", "vectors",
+    ] {
+        assert!(all.contains(&format!("\n  {command} ")));
+        let one = prints(&[command, "--help"]);
+        assert!(
+            one.starts_with(&format!("market-risk {command} ")),
+            "{command}"
+        );
+    }
+}
+
+/// What the report of each sample has, in whole currency units unless it is shown.
+const SAMPLES: [(&str, &str); 7] = [
+    ("equity", "0 0 8,800 4,800 0 0 13,600"),
+    ("swap", "213,280 4,580,112.500 0 0 0 0 4,793,392.500"),
+    ("keyed", "0 735 0 0 0 0 735"),
+    ("zones", "0 735 0 0 0 0 735"),
+    ("commodity", "0 0 0 0 0 79,200 79,200"),
+    ("fx", "0 0 0 0 26,800 0 26,800"),
+    (
+        "mixed",
+        "480,000 334,500 100,000 88,000 85,600 21,600 1,109,700",
+    ),
+];
+
+#[test]
+fn samples_cost_what_their_readme_says() {
+    for (name, expected) in SAMPLES {
+        let text = prints(&["report", &packed(name, "report")]);
+        let given = text.lines().map(|line| line.rsplit(' ').next().unwrap());
+        let given: Vec<&str> = given
+            .map(|figure| figure.trim_end_matches(".000"))
+            .collect();
+        assert_eq!(given.join(" "), expected, "{name}");
+    }
+}
+
+#[test]
+fn packed_samples_unpack_to_the_same_book() {
+    for name in [
+        "equity",
+        "swap",
+        "keyed",
+        "zones",
+        "commodity",
+        "fx",
+        "mixed",
+    ] {
+        let book = packed(name, "unpack");
+        let (text, again) = (
+            temporary(&format!("{name}.csv")),
+            temporary(&format!("{name}.again")),
+        );
+        prints(&["unpack", &book, &text]);
+        prints(&["pack", &text, &again]);
+        assert_eq!(fs::read(&book).unwrap(), fs::read(&again).unwrap());
+    }
+    // The sorted samples come back letter by letter.
+    let text = prints(&["unpack", &packed("swap", "letters"), "-"]);
+    assert_eq!(text, fs::read_to_string(sample("swap")).unwrap());
+}
+
+#[test]
+fn ladders_are_drawn() {
+    let text = prints(&["ladder", &packed("keyed", "ladder"), "--currency", "7"]);
+    let line = |words: &str| {
+        let squeezed = |line: &str| line.split_whitespace().collect::<Vec<_>>().join(" ");
+        assert!(
+            text.lines().any(|line| squeezed(line) == words),
+            "{words}\n{text}"
+        );
+    };
+    line("1 3 181-360 181-360 0.70% 75 0 525.0 0.0 0.0 525.0");
+    line("zones 1 and 2 525.0 525.0 525.0 40% 210.000");
+    line("zones 2 and 3 525.0 0.0 0.0 40% 0.000");
+    line("residual 525.0 100% 525.000");
+    line("charge 735.000");
+    line("gross 1,575.0 = 2 x 525.0 matched + 525.0 residual");
+    let text = prints(&["ladder", &packed("commodity", "ladder"), "--commodity", "5"]);
+    assert!(text.ends_with("79,200.000\n"));
+}
+
+#[test]
+fn ladders_are_refused() {
+    let book = packed("keyed", "group");
+    assert!(fails(1, &["ladder", &book, "--currency", "32"]).contains("refused 10"));
+    assert!(fails(1, &["ladder", &book, "--commodity", "99"]).contains("refused 10"));
+    assert!(fails(2, &["ladder", &book]).contains("--currency N"));
+    assert!(fails(2, &["ladder", &book, "--currency", "x"]).contains("'x'"));
+}
+
+#[test]
+fn joined_books() {
+    let (one, two, both) = (
+        packed("zones", "join"),
+        packed("mixed", "join"),
+        temporary("both.book"),
+    );
+    prints(&["join", &one, &two, &both]);
+    let joined = fs::read(&both).unwrap();
+    let (one_bytes, two_bytes) = (fs::read(&one).unwrap(), fs::read(&two).unwrap());
+    assert_eq!(joined[..8], [7, 0, 3, 0, 3, 0, 2, 0]);
+    assert_eq!(joined[8..56], one_bytes[8..56]);
+    assert_eq!(joined[56..], two_bytes[8..]);
+    let cut = temporary("cut.book");
+    fs::write(&cut, &joined[..30]).unwrap();
+    let error = fails(1, &["join", &one, &cut, &both]);
+    assert!(
+        error.contains("cut.book: refused 3 of the second book"),
+        "{error}"
+    );
+}
+
+#[test]
+fn errors_name_the_line_or_the_row() {
+    let text = temporary("wrong.csv");
+    let header = "class,group,kind,days,coupon,issue,long,short";
+    let wrong = "fx,1,none,0,0,0,5,0\nfx,32,none,0,0,0,5,0";
+    fs::write(&text, format!("{header}\n{wrong}\n")).unwrap();
+    let book = temporary("wrong.book");
+    let _ = fs::remove_file(&book);
+    let error = fails(1, &["pack", &text, &book]);
+    assert!(
+        error.contains("wrong.csv: line 3: refused 4: group over 31"),
+        "{error}"
+    );
+    assert!(fs::metadata(&book).is_err());
+    prints(&["pack", &text, &book, "--unchecked"]);
+    let error = fails(1, &["report", &book]);
+    assert!(
+        error.contains("refused 4 row 1: group over 31\nfx row: group 32"),
+        "{error}"
+    );
+    fs::write(&text, format!("{header}\nbond,1,none,0,0,0,5,0\n")).unwrap();
+    assert!(fails(1, &["pack", &text, &book]).contains("line 2: class is 'bond'"));
+}
+
+#[test]
+fn wrong_command_lines() {
+    assert!(fails(2, &[]).contains("--help"));
+    assert!(fails(2, &["charge"]).contains("no command 'charge'"));
+    assert!(fails(2, &["report"]).contains("0 files given where 1 are wanted"));
+    assert!(fails(2, &["report", "--all", "x"]).contains("no option '--all'"));
+    assert!(fails(2, &["report", &temporary("no such file")]).contains("no such file"));
+    assert!(fails(2, &["bench", "--rounds", "0"]).contains("must not be 0"));
+}

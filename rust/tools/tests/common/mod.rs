@@ -1,0 +1,45 @@
+//! Running the command.
+#![allow(dead_code)]
+
+use std::path::PathBuf;
+use std::process::{Command, Output};
+
+/// A file of this test run.
+pub fn temporary(name: &str) -> String {
+    let path = PathBuf::from(env!("CARGO_TARGET_TMPDIR")).join(name);
+    path.to_str().unwrap().to_string()
+}
+
+/// A sample book of the repository.
+pub fn sample(name: &str) -> String {
+    format!("{}/../../samples/{name}.csv", env!("CARGO_MANIFEST_DIR"))
+}
+
+/// Runs the command.
+pub fn run(words: &[&str]) -> Output {
+    let mut command = Command::new(env!("CARGO_BIN_EXE_market-risk"));
+    command.args(words).output().unwrap()
+}
+
+/// Runs the command, which must succeed, and gives what it prints.
+pub fn prints(words: &[&str]) -> String {
+    let output = run(words);
+    let errors = String::from_utf8_lossy(&output.stderr);
+    assert!(output.status.success(), "{words:?}: {errors}");
+    String::from_utf8(output.stdout).unwrap()
+}
+
+/// Runs the command, which must fail with this status, and gives its error.
+pub fn fails(status: i32, words: &[&str]) -> String {
+    let output = run(words);
+    assert_eq!(output.status.code(), Some(status), "{words:?}");
+    assert!(output.stdout.is_empty());
+    String::from_utf8(output.stderr).unwrap()
+}
+
+/// A sample, packed into a file of its own for each test.
+pub fn packed(name: &str, test: &str) -> String {
+    let book = temporary(&format!("{test}-{name}.book"));
+    prints(&["pack", &sample(name), &book]);
+    book
+}

@@ -1,0 +1,30 @@
+//! The longer runs: comparison, stored calls, speed.
+
+mod common;
+
+use common::{fails, prints, temporary};
+use std::fs;
+
+#[test]
+fn the_library_and_the_second_calculation_agree() {
+    let text = prints(&["compare", "--seed", "9", "--count", "400"]);
+    assert!(text.starts_with("seed 9: 400 pairs equal in "), "{text}");
+}
+
+#[test]
+fn vectors_are_current_until_they_are_changed() {
+    let folder = temporary("vectors");
+    fs::create_dir_all(&folder).unwrap();
+    prints(&["vectors", "--seed", "3", "--write", &folder]);
+    prints(&["vectors", "--seed", "3", "--check", &folder]);
+    assert!(fails(1, &["vectors", "--check", &folder]).contains("is not current"));
+    fs::write(format!("{folder}/stdout"), "check 0 0 0\n").unwrap();
+    let error = fails(1, &["vectors", "--seed", "3", "--check", &folder]);
+    assert!(error.contains("stdout is not current"));
+}
+
+#[test]
+fn a_short_benchmark_prints_every_line() {
+    let text = prints(&["bench", "--rounds", "1"]);
+    assert_eq!(text.lines().count(), 2 + 3 * 3 + 2 * 3);
+}
