@@ -41,6 +41,12 @@ module _ (days : ℕ) (column : List ℕ) (i : ℕ) (within : i < length column)
   unfolding below
   below-same h = below-last ∙ rw (le-ltb _ _ h, add-zero)
 
+-- ---- tests
+-- a choice of two numbers that are within a bound
+pub either : {bound : ℕ} (test : Bool) (a b : ℕ) → a ≤ bound → b ≤ bound → cond test a b ≤ bound
+either true a b h k = h
+either false a b h k = k
+
 pub both : (a b : Bool) → (a && b) ≡ true → (a ≡ true) × (b ≡ true)
 both true b e = (refl, e)
 both false b e = absurd (false≢true e)

@@ -1,6 +1,6 @@
 -- What the clean rows of a class sum to: each side, the amounts, and the specific charge.
 -- Assumes nothing.
-use mathlib.Core.Bool.{Bool, true, false, cond}
+use mathlib.Core.Bool.{cond}
 use mathlib.Core.Logic.{⊎-elim}
 use mathlib.Core.List.{List, map}
 use Prim.Native.Nat.{ℕ, zero, suc, _+_, _*_, _≤_, _<_}
@@ -15,6 +15,7 @@ use Rattle.book.specs.Accepted.{Every, none, also, Clean}
 use Rattle.ladder.specs.Rows.{sumOf}
 use Rattle.ladder.proofs.Sums.{sumOf≤, sumOf-times}
 use Rattle.charges.specs.Weights.{qualifyingWeight, interestWeight, equityWeight, specificWeight}
+use Rattle.charges.proofs.Columns.{either}
 use Rattle.charges.specs.Charges.{eightPerCent, amounts, specificOf}
 
 -- ---- every element of a list
@@ -43,10 +44,6 @@ unfolding amounts
 amounts-within class = every-bound (λ row. row .long + row .short) mostAmount (amount-within class)
 
 -- no specific weight is over 800 basis points
-either : (test : Bool) (a b : ℕ) → a ≤ 800 → b ≤ 800 → cond test a b ≤ 800
-either true a b h k = h
-either false a b h k = k
-
 by-kind : (kind a b c : ℕ) → a ≤ 800 → b ≤ 800 → c ≤ 800 → cond (eqb kind 1) a (cond (eqb kind 2) b (cond (eqb kind 3) c 0)) ≤ 800
 by-kind kind a b c ha hb hc = either (eqb kind 1) a _ ha (either (eqb kind 2) b _ hb (either (eqb kind 3) c 0 hc (omega arith)))
 

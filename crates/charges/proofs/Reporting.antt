@@ -1,21 +1,24 @@
 -- From a book to its report: the parts that are handed out, their rows, and that the total is no number too large.
 -- Assumes nothing.
-use mathlib.Core.Path.{_≡_, ap, _∙_}
+use mathlib.Core.Path.{_≡_, refl, sym, ap, _∙_}
+use mathlib.Core.Bool.{Bool, true, false, cond}
 use mathlib.Core.List.{List, map}
 use Prim.Native.Nat.{ℕ, _+_, _*_, _≤_}
 use native.Mathlib.Omega.{arith}
 use lib.ListN.{length, length-map}
+use lib.Dec.{ltb}
+use borrow.Author.Tests.{ltb-false}
 use Rattle.book.specs.declared.Row.{Row}
 use Rattle.book.specs.declared.Contents.{Contents}
-use Rattle.book.specs.Counts.{bodyBy}
+use Rattle.book.specs.Counts.{countsOf, bodyBy}
 use Rattle.book.specs.Rows.{rowsIn, rowsOf, decode}
-use Rattle.book.specs.Refusals.{mostAmount, mostRows, refusalOf}
+use Rattle.book.specs.Refusals.{mostAmount, mostRows, lastGroup, refused, refusalOf}
 use Rattle.book.specs.Parts.{handedOut, contentsOf, partOf}
 use Rattle.book.proofs.Acceptance.{accepted}
 use Rattle.book.proofs.Handed.{part-by, accepted-part, handed-out}
 use Rattle.charges.specs.Charges.{eightPerCent, amounts, specificCharge, exchangeGeneral, commodityGeneral, interestRisk, equityRisk}
 use Rattle.charges.specs.Tables.{Handed}
-use Rattle.charges.specs.Report.{legsOf}
+use Rattle.charges.specs.Report.{legsOf, ladderRefusal, ladderContents}
 use Rattle.charges.proofs.Legs.{every-decoded, amounts-within, specific-within}
 use Rattle.charges.proofs.Rates.{interest-rate, equity-rate, exchange-rate, commodity-rate, specific-total}
 
@@ -27,6 +30,21 @@ module _ (s : List ℕ) where
   pub refusal-read : (contents : Contents) → contents ≡ contentsOf s → contents .refusal ≡ refusalOf s
   unfolding contentsOf handedOut
   refusal-read contents is = ap (λ (x : Contents). x .refusal) is
+
+  -- what a ladder call may go on with: a group up to 31, and the contents of an accepted book
+  pub record Ladderable (contents : Contents) (group : ℕ) : Type 0 where
+    pub in-range : group ≤ lastGroup
+    pub passed : refusalOf s .number ≡ 0
+    pub read : contents ≡ contentsOf s
+
+  pub ladder-read : (contents : Contents) (group : ℕ) → contents ≡ ladderContents s group → contents .refusal .number ≡ 0 → Ladderable contents group
+  unfolding ladderContents ladderRefusal contentsOf handedOut refused
+  ladder-read contents group is = go (ltb lastGroup group) (ltb-false lastGroup group) is
+    where
+      go : (wrong : Bool) → (wrong ≡ false → group ≤ lastGroup) → contents ≡ handedOut (cond wrong (refused 10 0) (refusalOf s)) (countsOf s)
+          → contents .refusal .number ≡ 0 → Ladderable contents group
+      go true range is none = let never : ⊥ = omega (arith, ap (λ (x : Contents). x .refusal .number) is) in absurd never
+      go false range is none = record { in-range = range refl; passed = ap (λ (x : Contents). x .refusal .number) (sym is) ∙ none; read = is }
 
   -- the parts of the four classes, of any bytes
   part-handed : (class : ℕ) → 1 ≤ class → class ≤ 4 → length (rowsIn (partOf s class)) ≤ mostRows → Handed class (partOf s class)

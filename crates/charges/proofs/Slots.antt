@@ -18,6 +18,7 @@ use Rattle.ladder.proofs.Agreeing.{Agree}
 use borrow.Author.Tests.{eq-eqb, ne-eqb}
 use Rattle.charges.specs.Bands.{firstBand, highColumn, lowColumn, commodityColumn, interestBand, commodityBand, bandIn}
 use Rattle.charges.specs.Charges.{reading}
+use Rattle.charges.proofs.Columns.{either}
 use Rattle.charges.specs.Tables.{SumsOf, slotIn, tableBands, tableGroups}
 
 -- ---- a class has at most fifteen bands
@@ -30,17 +31,16 @@ first-within days (last ∷ column) = go (ltb last days) (first-within days colu
     go true h = omega arith
     go false h = omega arith
 
-either : (test : Bool) (a b : ℕ) → a < 15 → b < 15 → cond test a b < 15
-either true a b h k = h
-either false a b h k = k
-
-pub band-below : (class : ℕ) (row : Row) → bandIn class row < 15
+band-most : (class : ℕ) (row : Row) → bandIn class row ≤ 14
 unfolding bandIn interestBand commodityBand
-band-below class row =
+band-most class row =
     let days = row .days in
     either (eqb class 1) (interestBand row) _
     (either (ltb (row .coupon) 300) (firstBand days lowColumn) _ (omega (arith, first-within days lowColumn)) (omega (arith, first-within days highColumn)))
     (either (eqb class 4) (commodityBand row) 0 (omega (arith, first-within days commodityColumn)) (omega arith))
+
+pub band-below : (class : ℕ) (row : Row) → bandIn class row < 15
+band-below class row = omega (arith, band-most class row)
 
 -- ---- a slot is of one group and one band
 one-slot : (group band g k x : ℕ) → band < 15 → k < 15 → only (eqb (15 * group + band) (15 * g + k)) x ≡ only (eqb band k) (only (eqb group g) x)

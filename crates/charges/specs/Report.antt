@@ -5,9 +5,11 @@ use mathlib.Core.List.{List, map}
 use lib.Dec.{ltb, eqb}
 use Rattle.book.specs.declared.Row.{Row}
 use Rattle.book.specs.declared.Refusal.{Refusal}
+use Rattle.book.specs.declared.Contents.{Contents}
+use Rattle.book.specs.Counts.{countsOf}
 use Rattle.book.specs.Rows.{rowsOf, decode}
 use Rattle.book.specs.Refusals.{lastGroup, refused, refusalOf}
-use Rattle.book.specs.Parts.{accepts}
+use Rattle.book.specs.Parts.{accepts, handedOut}
 use Rattle.ladder.specs.declared.InterestFigures.{InterestFigures}
 use Rattle.ladder.specs.declared.CommodityFigures.{CommodityFigures}
 use Rattle.charges.specs.Charges.{Risk, interestFiguresOf, commodityFiguresOf, interestRisk, equityRisk, exchangeGeneral, commodityGeneral}
@@ -49,6 +51,10 @@ reportOf s =
 -- a ladder call's refusal: 10 before the book is looked at, then the book's (document 01, Who is told no, and why)
 unfoldable pub ladderRefusal : List ℕ → ℕ → Refusal
 ladderRefusal s group = cond (ltb lastGroup group) (refused 10 0) (refusalOf s)
+
+-- what a ladder call reads: its refusal, and the counts of a book that it may go on with
+unfoldable pub ladderContents : List ℕ → ℕ → Contents
+ladderContents s group = handedOut (ladderRefusal s group) (countsOf s)
 
 abbrev pub noInterest : InterestFigures
 noInterest = record { gross = 0; vertical = 0; zone1 = 0; zone2 = 0; zone3 = 0; zones12 = 0; zones23 = 0; zones13 = 0; residual = 0; charge = 0 }

@@ -6,13 +6,14 @@ mod sums;
 mod tables;
 mod weights;
 
+use book::Contents;
+use book::Counts;
 use book::Refusal;
 use ladder::CommodityFigures;
 use ladder::InterestFigures;
 ghost use mathlib.Core.Path.{_≡_};
 ghost use Prim.Native.Nat.{_+_, _≤_};
-ghost use Rattle.book.specs.Refusals.{refused};
-ghost use Rattle.charges.specs.Report.{reportWith, refusedReport, reportOf, noInterest, noCommodity, interestLadderOf, commodityLadderOf};
+ghost use Rattle.charges.specs.Report.{reportWith, refusedReport, reportOf, noInterest, noCommodity, ladderContents, interestLadderOf, commodityLadderOf};
 
 // The two parts of a class's charge.
 pub struct Risk {
@@ -99,17 +100,11 @@ fn refused_report(refusal: Refusal) -> Report
     }
 }
 
-// The interest ladder of a currency, or why there is none: 10 before the book is looked at.
+// The interest ladder of a currency, or why there is none.
 pub fn interest_ladder(book: &[u8], group: usize) -> InterestLadder
     ensures { λ r. ⌜ r ≡ interestLadderOf (now (book .entry)) group ⌝ }
 {
-    if 31 < group {
-        return InterestLadder {
-            refusal: wrong_group(),
-            figures: no_interest(),
-        };
-    }
-    let contents = book::read(book);
+    let contents = ladder_contents(book, group);
     let refusal = contents.refusal;
     if refusal.number != 0 {
         return InterestLadder {
@@ -123,17 +118,11 @@ pub fn interest_ladder(book: &[u8], group: usize) -> InterestLadder
     }
 }
 
-// The ladder of a commodity, or why there is none: 10 before the book is looked at.
+// The ladder of a commodity, or why there is none.
 pub fn commodity_ladder(book: &[u8], group: usize) -> CommodityLadder
     ensures { λ r. ⌜ r ≡ commodityLadderOf (now (book .entry)) group ⌝ }
 {
-    if 31 < group {
-        return CommodityLadder {
-            refusal: wrong_group(),
-            figures: no_commodity(),
-        };
-    }
-    let contents = book::read(book);
+    let contents = ladder_contents(book, group);
     let refusal = contents.refusal;
     if refusal.number != 0 {
         return CommodityLadder {
@@ -147,14 +136,26 @@ pub fn commodity_ladder(book: &[u8], group: usize) -> CommodityLadder
     }
 }
 
-fn wrong_group() -> Refusal
-    ensures { λ r. ⌜ r ≡ refused 10 0 ⌝ }
+// What a ladder call reads: a wrong group is refused with 10 before the book is looked at.
+fn ladder_contents(book: &[u8], group: usize) -> Contents
+    ensures { λ r. ⌜ r ≡ ladderContents (now (book .entry)) group ⌝ }
 {
-    Refusal {
-        number: 10,
-        row: 0,
-        book: 0,
+    if 31 < group {
+        return Contents {
+            refusal: Refusal {
+                number: 10,
+                row: 0,
+                book: 0,
+            },
+            counts: Counts {
+                interest: 0,
+                equity: 0,
+                exchange: 0,
+                commodity: 0,
+            },
+        };
     }
+    book::read(book)
 }
 
 fn no_interest() -> InterestFigures

@@ -9,10 +9,10 @@ use lib.ListN.{length, length-append}
 use Rattle.book.specs.declared.Counts.{Counts}
 use Rattle.book.specs.Counts.{contentsSize, rowSize, countsOf, countIn, rowCount, bodyOf}
 use Rattle.book.specs.Rows.{rowsOf, decode}
-use Rattle.book.specs.Refusals.{mostRows, refused, refusalOf}
+use Rattle.book.specs.Refusals.{mostRows}
 use Rattle.book.specs.Accepted.{Every, none, also, Clean, Accepted}
 use Rattle.book.proofs.Bodies.{body-length}
-use Rattle.book.proofs.Acceptance.{every-append, class-clean, refused-with-none}
+use Rattle.book.proofs.Acceptance.{every-append, class-clean}
 use Rattle.join.specs.Joined.{addedCounts, joinedCounts, joinedBody, joined}
 use Rattle.join.proofs.Whole.{file-counts, file-body, file-length}
 use Rattle.join.proofs.Appended.{rows-append}
@@ -68,6 +68,3 @@ module _ (a b : List ℕ) where
                 (also (rows-clean 2 (omega arith) (omega arith))
                 (also (rows-clean 3 (omega arith) (omega arith)) (also (rows-clean 4 (omega arith) (omega arith)) none)));
           }
-
-      pub joined-refusal : refusalOf (joined a b) ≡ refused 0 0
-      joined-refusal = refused-with-none (joined a b) joined-accepted

@@ -1,6 +1,6 @@
 use mathlib.Core.Path.{_≡_, ap}
 use mathlib.Core.Logic.{⊎-elim}
-use Prim.Native.Nat.{_-_}
+use Prim.Native.Nat.{_-_, _<_, _≤_}
 use native.Mathlib.Omega.{arith}
 use borrow.Author.Needs.{needs}
 use Rattle.ladder.specs.Interest.{percents, interestFigures}
@@ -19,16 +19,17 @@ abbrev μ-loop : tie.MeasureT-loop
 loop-holds : tie.Need-loop-holds Inv-loop μ-loop
 loop-holds c = summed-none _ 32
 
+-- each group is within the whole
+room : (at : tie.In-loop Inv-loop μ-loop) → (at .before .loop .group < 32) × (tableGross (at .before .before .args .longs .now) (at .before .before .args .shorts .now) (at .before .loop .group) ≤ mostGross)
+room at =
+    let start = at .before .before in
+    (at .loop-test .taken, omega (arith, sum-room (tableGross (start .args .longs .now) (start .args .shorts .now)) (at .before .loop .group) 32 (at .loop-test .taken), start .pre))
+
 group-gross-requires : tie.Need-group-gross-requires Inv-loop μ-loop
-group-gross-requires c κs =
-    let start = c .before .before in
-    (c .loop-test .taken, omega (arith, sum-room (tableGross (start .args .longs .now) (start .args .shorts .now)) (c .before .loop .group) 32 (c .loop-test .taken), start .pre))
+group-gross-requires c κs = room c
 
 interest-figures-requires : tie.Need-interest-figures-requires Inv-loop μ-loop
-interest-figures-requires c κs =
-    let at-loop = c .before .before .before in
-    let start = at-loop .before in
-    (c .before .before .loop-test .taken, omega (arith, sum-room (tableGross (start .args .longs .now) (start .args .shorts .now)) (at-loop .loop .group) 32 (c .before .before .loop-test .taken), start .pre))
+interest-figures-requires c κs = room (c .before .before)
 
 add-charge : tie.Need-add-charge Inv-loop μ-loop
 add-charge c =
