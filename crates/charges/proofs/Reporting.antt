@@ -32,17 +32,17 @@ module _ (s : List ℕ) where
   refusal-read contents is = ap (λ (x : Contents). x .refusal) is
 
   -- what a ladder call may go on with: a group up to 31, and the contents of an accepted book
-  pub record Ladderable (contents : Contents) (group : ℕ) : Type 0 where
+  pub record LadderRead (contents : Contents) (group : ℕ) : Type 0 where
     pub in-range : group ≤ lastGroup
     pub passed : refusalOf s .number ≡ 0
     pub read : contents ≡ contentsOf s
 
-  pub ladder-read : (contents : Contents) (group : ℕ) → contents ≡ ladderContents s group → contents .refusal .number ≡ 0 → Ladderable contents group
+  pub ladder-read : (contents : Contents) (group : ℕ) → contents ≡ ladderContents s group → contents .refusal .number ≡ 0 → LadderRead contents group
   unfolding ladderContents ladderRefusal contentsOf handedOut refused
   ladder-read contents group is = go (ltb lastGroup group) (ltb-false lastGroup group) is
     where
       go : (wrong : Bool) → (wrong ≡ false → group ≤ lastGroup) → contents ≡ handedOut (cond wrong (refused 10 0) (refusalOf s)) (countsOf s)
-          → contents .refusal .number ≡ 0 → Ladderable contents group
+          → contents .refusal .number ≡ 0 → LadderRead contents group
       go true range is none = let never : ⊥ = omega (arith, ap (λ (x : Contents). x .refusal .number) is) in absurd never
       go false range is none = record { in-range = range refl; passed = ap (λ (x : Contents). x .refusal .number) (sym is) ∙ none; read = is }
 

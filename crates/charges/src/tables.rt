@@ -13,10 +13,11 @@ pub fn weighted_bands(table: &[u64; 480], group: usize) -> [u64; 15]
     requires { ⌜ ((k : ℕ) → k < 15 → weightOf k * getD (now table) (15 * group + k) 0 ≤ limit) ⌝ }
     ensures { λ r. ⌜ Reads 15 (λ k. weightOf k * getD (now (table .entry)) (15 * group + k) 0) r ⌝ }
 {
+    let weights = bands::WEIGHTS;
     let mut out = [0u64; 15];
     let mut k: usize = 0;
     while k < 15 {
-        out[k] = bands::WEIGHTS[k] * table[15 * group + k];
+        out[k] = weights[k] * table[15 * group + k];
         k += 1;
     }
     out

@@ -8,7 +8,7 @@ use Rattle.book.specs.Rows.{rowsIn, decode}
 use Rattle.book.specs.Parts.{handedOut, partOf}
 use Rattle.charges.specs.Charges.{commodityFiguresOf}
 use Rattle.charges.specs.Report.{ladderRefusal, ladderContents, commodityLadderOf}
-use Rattle.charges.proofs.Reporting.{Ladderable, ladder-read, part-read, part-legs, commodity-handed}
+use Rattle.charges.proofs.Reporting.{LadderRead, ladder-read, part-read, part-legs, commodity-handed}
 use borrow.Author.Needs.{needs}
 use Rattle.charges.proofs.commodity_ladder.Statement.{statement}
 use Rattle.charges.proofs.commodity_ladder.Tie as tie
@@ -19,7 +19,7 @@ unfolding ladderContents handedOut
 refusal-is c = ap (λ (contents : Contents). contents .refusal) (c .ladder-contents .ensures)
 
 -- not refused, the part is the one that the book hands out
-passed : (c : tie.Else1) → Ladderable (c .before .before .before .before .before .args .book .now) (c .before .before .before .ladder-contents .result) (c .before .before .before .before .before .args .group)
+passed : (c : tie.Else1) → LadderRead (c .before .before .before .before .before .args .book .now) (c .before .before .before .ladder-contents .result) (c .before .before .before .before .before .args .group)
 passed c = ladder-read _ _ _ (c .before .before .before .ladder-contents .ensures) (c .if1 .left)
 
 part-is : (c : tie.After-body) → c .body .result .now ≡ partOf (c .before .before .before .before .before .before .args .book .now) 4

@@ -9,10 +9,10 @@ use Rattle.charges.proofs.tables.weighted_bands.Statement.{statement}
 use Rattle.charges.proofs.tables.weighted_bands.Tie as tie
 
 abbrev Inv-loop : tie.InvT-loop
-Inv-loop table group out₀ k₀ out k = Filled 15 (λ j. weightOf j * getD table (15 * group + j) 0) out k
+Inv-loop table group weights out₀ k₀ out k = Filled 15 (λ j. weightOf j * getD table (15 * group + j) 0) out k
 
 abbrev μ-loop : tie.MeasureT-loop
-μ-loop table group out₀ k₀ out k = 15 - k
+μ-loop table group weights out₀ k₀ out k = 15 - k
 
 loop-holds : tie.Need-loop-holds Inv-loop μ-loop
 loop-holds c = filled-none _ _ _ refl
