@@ -14,14 +14,14 @@ use Rattle.ladder.specs.Interest.{percents, zones, matches, interestFigures}
 use Rattle.ladder.specs.Commodity.{commodityFigures}
 use Rattle.ladder.specs.Nets.{groups, absoluteNets, shorthand}
 use Rattle.ladder.specs.Rows.{sumOf}
-use Rattle.ladder.specs.Books.{weighing, ladderOf, grouped, groupsOf}
+use Rattle.ladder.specs.Books.{weighing, ladderOf, groupsOf}
 use Rattle.ladder.proofs.AddsUp.{charge-within, percents-accepted}
 use Rattle.ladder.proofs.Carrying.{commodity-within}
 use Rattle.ladder.proofs.Agreeing.{Agree, interest-agree, commodity-agree, absolutes-agree, shorthand-agree}
 use Rattle.ladder.proofs.Books.{ladderOf-weighted}
 use Rattle.ladder.proofs.Bounds.{ladder-within, ladders-within}
 use Rattle.charges.specs.Bands.{weightOf, bandIn}
-use Rattle.charges.specs.Charges.{amounts, reading, interestGeneral, commodityGeneral}
+use Rattle.charges.specs.Charges.{amounts, reading, interestFiguresOf, commodityFiguresOf, interestGeneral, commodityGeneral}
 use Rattle.charges.specs.Tables.{SumsOf, mostGross, tableBands, tableGross, weightedBands, tableGroups}
 use Rattle.charges.proofs.Legs.{amounts-within}
 use Rattle.charges.proofs.Summing.{sum-same, gross-agree, fewer-within}
@@ -76,7 +76,7 @@ module _ (rows : List Row) (longs shorts : List ℕ) (specific : ℕ) (of : Sums
   interest-is g h = interest-agree percents (weighted-agree g h)
 
   pub interest-sum : sumOf (λ g. interestFigures percents (weightedBands longs shorts g) .charge) groups ≡ interestGeneral rows
-  unfolding interestGeneral grouped
+  unfolding interestGeneral interestFiguresOf
   interest-sum = sum-same _ _ 32 (λ g h. ap (λ figures. figures .charge) (interest-is g h))
 
 -- ---- commodities
@@ -88,7 +88,7 @@ module _ (rows : List Row) (longs shorts : List ℕ) (specific : ℕ) (of : Sums
   commodity-is g h = commodity-agree (near-agree g h)
 
   pub commodity-sum : sumOf (λ g. commodityFigures (tableBands longs shorts g) .charge) groups ≡ commodityGeneral rows
-  unfolding commodityGeneral grouped
+  unfolding commodityGeneral commodityFiguresOf
   commodity-sum = sum-same _ _ 32 (λ g h. ap (λ figures. figures .charge) (commodity-is g h))
 
 -- ---- equity and foreign exchange

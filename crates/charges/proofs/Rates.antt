@@ -15,13 +15,13 @@ use Rattle.ladder.specs.Sides.{Bands, span, gross, total}
 use Rattle.ladder.specs.Interest.{percents}
 use Rattle.ladder.specs.Nets.{groups, currencies}
 use Rattle.ladder.specs.Rows.{sumOf, sumAt}
-use Rattle.ladder.specs.Books.{groupsOf, amountOf, weighing, weighted}
+use Rattle.ladder.specs.Books.{grouped, groupsOf, amountOf, weighing, weighted}
 use Rattle.ladder.proofs.AddsUp.{percents-accepted}
 use Rattle.ladder.proofs.Sums.{sumOf-plus, sumOf≤, sumOf-times, sumOf-bounded, slot, slot-within}
 use Rattle.ladder.proofs.Netting.{absolutes-within, shorthand-within}
 use Rattle.ladder.proofs.Bounds.{groups-within, general-within, commodities-within}
 use Rattle.charges.specs.Bands.{weights, weightOf}
-use Rattle.charges.specs.Charges.{eightPerCent, amounts, reading, specificOf, specificIn, specificCharge, interestGeneral, equityGeneral, exchangeGeneral, commodityGeneral}
+use Rattle.charges.specs.Charges.{eightPerCent, amounts, reading, specificOf, specificIn, specificCharge, interestFiguresOf, commodityFiguresOf, interestGeneral, equityGeneral, exchangeGeneral, commodityGeneral}
 use Rattle.charges.proofs.Columns.{both}
 
 -- ---- weights
@@ -53,7 +53,7 @@ weighted-within rows =
 
 -- ---- rates
 pub interest-rate : (rows : List Row) → interestGeneral rows ≤ 125000 * amounts rows
-unfolding interestGeneral
+unfolding interestGeneral interestFiguresOf grouped
 interest-rate rows = omega (arith, general-within (reading 1) weightOf percents percents-accepted 32 rows, weighted-within rows)
 
 pub groups-rate : (class : ℕ) (rows : List Row) → gross (total (groupsOf (reading class) rows) groups) ≤ amounts rows
@@ -69,7 +69,7 @@ unfolding exchangeGeneral span
 exchange-rate rows = omega (arith, shorthand-within currencies (groupsOf (reading 3) rows), groups-rate 3 rows)
 
 pub commodity-rate : (rows : List Row) → commodityGeneral rows ≤ 186000 * amounts rows
-unfolding commodityGeneral amounts
+unfolding commodityGeneral commodityFiguresOf grouped amounts
 commodity-rate rows = commodities-within (reading 4) 32 rows
 
 -- ---- every row of a clean class is in one of the 32 groups

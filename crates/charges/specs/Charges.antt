@@ -4,11 +4,11 @@ use mathlib.Core.List.{List}
 use Rattle.book.specs.declared.Row.{Row}
 use Rattle.ladder.specs.declared.InterestFigures.{InterestFigures}
 use Rattle.ladder.specs.declared.CommodityFigures.{CommodityFigures}
-use Rattle.ladder.specs.Interest.{zones, percents, interestFigures}
+use Rattle.ladder.specs.Interest.{percents, interestFigures}
 use Rattle.ladder.specs.Commodity.{commodityFigures}
 use Rattle.ladder.specs.Nets.{groups, absoluteNets, shorthand}
 use Rattle.ladder.specs.Rows.{sumOf, sumAt}
-use Rattle.ladder.specs.Books.{Reading, weighing, ladderOf, groupsOf, generalCharge, commodityCharge}
+use Rattle.ladder.specs.Books.{Reading, weighing, ladderOf, groupsOf}
 pub use Rattle.charges.specs.declared.Risk.{Risk}
 use Rattle.charges.specs.Bands.{weightOf, bandIn}
 use Rattle.charges.specs.Weights.{specificWeight}
@@ -48,9 +48,9 @@ interestFiguresOf group rows = interestFigures percents (ladderOf (weighing weig
 unfoldable pub commodityFiguresOf : ℕ → List Row → CommodityFigures
 commodityFiguresOf group rows = commodityFigures (ladderOf (reading 4) group rows)
 
--- each currency's ladder, summed (document 01, Interest: bands and zones)
+-- the ladders of all currencies, summed (document 01, Interest: bands and zones)
 unfoldable pub interestGeneral : List Row → ℕ
-interestGeneral rows = generalCharge (reading 1) weightOf percents zones groups rows
+interestGeneral rows = sumOf (λ group. interestFiguresOf group rows .charge) groups
 
 -- 8% of each market's absolute net, summed (document 01, Equity and foreign exchange)
 unfoldable pub equityGeneral : List Row → ℕ
@@ -60,9 +60,9 @@ equityGeneral rows = eightPerCent * absoluteNets (groupsOf (reading 2) rows)
 unfoldable pub exchangeGeneral : List Row → ℕ
 exchangeGeneral rows = eightPerCent * shorthand (groupsOf (reading 3) rows)
 
--- each commodity's ladder, summed (document 01, The commodities ladder)
+-- the ladders of all commodities, summed (document 01, The commodities ladder)
 unfoldable pub commodityGeneral : List Row → ℕ
-commodityGeneral rows = commodityCharge (reading 4) groups rows
+commodityGeneral rows = sumOf (λ group. commodityFiguresOf group rows .charge) groups
 
 -- the two parts of the interest charge, and of the equity charge
 unfoldable pub interestRisk : List Row → Risk

@@ -11,14 +11,14 @@ use Rattle.ladder.specs.Interest.{zones, percents, chargeOf}
 use Rattle.ladder.specs.Commodity.{commodityFigures}
 use Rattle.ladder.specs.Nets.{groups, currencies, absoluteNets, shorthand}
 use Rattle.ladder.specs.Rows.{sumOf}
-use Rattle.ladder.specs.Books.{Exchanges, TwoZones, weighing}
+use Rattle.ladder.specs.Books.{Exchanges, TwoZones, weighing, grouped}
 use Rattle.ladder.proofs.AddsUp.{percents-accepted}
 use Rattle.ladder.proofs.Netting.{absolutes-joined, absolutes-mirrored, shorthand-joined, shorthand-mirrored}
 use Rattle.ladder.proofs.Sums.{sumOf-append, sumOf-plus, sumOf-permuted, sumOf-map}
 use Rattle.ladder.proofs.Books.{general-joined, commodity-joined, nets-joined, grouped-permuted, groupsOf-permuted, general-mirrored, commodity-mirrored, nets-mirrored}
 use Rattle.charges.specs.Bands.{weightOf, interestBand, commodityBand, bandIn}
 use Rattle.charges.specs.Weights.{interestWeight, equityWeight, specificWeight}
-use Rattle.charges.specs.Charges.{eightPerCent, reading, specificOf, specificIn, specificCharge, interestGeneral, equityGeneral, exchangeGeneral, commodityGeneral, interestRisk, equityRisk}
+use Rattle.charges.specs.Charges.{eightPerCent, reading, specificOf, specificIn, specificCharge, interestFiguresOf, commodityFiguresOf, interestGeneral, equityGeneral, exchangeGeneral, commodityGeneral, interestRisk, equityRisk}
 
 -- ---- put together
 module _ (rows more : List Row) where
@@ -28,7 +28,7 @@ module _ (rows more : List Row) where
       ap (λ (f : ℕ → ℕ). sumOf f groups) (fun-ext (λ g. sumOf-append _ rows more)) ∙ sumOf-plus _ _ groups
 
   pub interest-joined : ((g : ℕ) → List·Memᴰ g groups → TwoZones (reading 1) zones g (rows ++ more)) → interestGeneral (rows ++ more) ≤ interestGeneral rows + interestGeneral more
-  unfolding interestGeneral
+  unfolding interestGeneral interestFiguresOf grouped
   interest-joined two = general-joined (reading 1) weightOf percents percents-accepted zones groups rows more two
 
   pub equity-joined : equityGeneral (rows ++ more) ≤ equityGeneral rows + equityGeneral more
@@ -40,7 +40,7 @@ module _ (rows more : List Row) where
   exchange-joined = omega (arith, nets-joined (reading 3) shorthand (shorthand-joined currencies) rows more)
 
   pub commodities-joined : commodityGeneral (rows ++ more) ≤ commodityGeneral rows + commodityGeneral more
-  unfolding commodityGeneral
+  unfolding commodityGeneral commodityFiguresOf grouped
   commodities-joined = commodity-joined (reading 4) groups rows more
 
 -- ---- permuted, and mirrored
@@ -72,7 +72,7 @@ specific-invariant class =
     }
 
 interest-invariant : Invariant interestGeneral
-unfolding interestGeneral
+unfolding interestGeneral interestFiguresOf grouped
 interest-invariant =
     record {
       permuted = grouped-permuted (weighing weightOf (reading 1)) (chargeOf percents zones) groups;
@@ -96,7 +96,7 @@ exchange-invariant =
     }
 
 pub commodity-invariant : Invariant commodityGeneral
-unfolding commodityGeneral
+unfolding commodityGeneral commodityFiguresOf grouped
 commodity-invariant =
     record {
       permuted = grouped-permuted (reading 4) (λ f. (commodityFigures f) .charge) groups;
