@@ -6,9 +6,10 @@ use mathlib.Core.List.{List, map}
 use Prim.Native.Nat.{ℕ, _+_, _*_, _≤_}
 use native.Mathlib.Omega.{arith}
 use lib.ListN.{length, length-map}
-use lib.Dec.{ltb}
-use borrow.Author.Tests.{ltb-false}
+use lib.Dec.{ltb, eqb}
+use borrow.Author.Tests.{ltb-false, eq-eqb, ne-eqb}
 use Rattle.book.specs.declared.Row.{Row}
+use Rattle.book.specs.declared.Refusal.{Refusal}
 use Rattle.book.specs.declared.Contents.{Contents}
 use Rattle.book.specs.Counts.{countsOf, bodyBy}
 use Rattle.book.specs.Rows.{rowsIn, rowsOf, decode}
@@ -31,6 +32,11 @@ module _ (s : List ℕ) where
   unfolding contentsOf handedOut
   refusal-read contents is = ap (λ (x : Contents). x .refusal) is
 
+  -- the rows of a part, of an accepted book
+  pub part-legs : (class : ℕ) → refusalOf s .number ≡ 0 → map decode (rowsIn (partOf s class)) ≡ legsOf s class
+  unfolding legsOf rowsOf
+  part-legs class e = rw (accepted-part s class (accepted s e))
+
   -- what a ladder call may go on with: a group up to 31, and the contents of an accepted book
   pub record LadderRead (contents : Contents) (group : ℕ) : Type 0 where
     pub in-range : group ≤ lastGroup
@@ -45,6 +51,23 @@ module _ (s : List ℕ) where
           → contents .refusal .number ≡ 0 → LadderRead contents group
       go true range is none = let never : ⊥ = omega (arith, ap (λ (x : Contents). x .refusal .number) is) in absurd never
       go false range is none = record { in-range = range refl; passed = ap (λ (x : Contents). x .refusal .number) (sym is) ∙ none; read = is }
+
+  -- what a ladder call gives, of either ladder: its refusal, and its figures where it is refused and where it is not
+  module _ (contents : Contents) (group : ℕ) (is : contents ≡ ladderContents s group) where
+    ladder-refusal : contents .refusal ≡ ladderRefusal s group
+    unfolding ladderContents handedOut
+    ladder-refusal = ap (λ (x : Contents). x .refusal) is
+
+    pub ladder-refused : {A : Type 0} (figures none : A) → (contents .refusal .number ≡ 0 → ⊥)
+        → (contents .refusal ≡ ladderRefusal s group) × (cond (eqb (ladderRefusal s group .number) 0) figures none ≡ none)
+    ladder-refused figures none bad = (ladder-refusal, simp (ne-eqb _ _ (λ e. bad (ap (λ (r : Refusal). r .number) ladder-refusal ∙ e))))
+
+    pub ladder-given : {A : Type 0} (of : List Row → A) (none : A) (class : ℕ) (part : List ℕ) → contents .refusal .number ≡ 0 → part ≡ partOf s class
+        → (contents .refusal ≡ ladderRefusal s group) × (cond (eqb (ladderRefusal s group .number) 0) (of (legsOf s class)) none ≡ of (map decode (rowsIn part)))
+    ladder-given of none class part good part-is =
+        let passes = eq-eqb _ _ (ap (λ (r : Refusal). r .number) (sym ladder-refusal) ∙ good) in
+        let rows = ap (λ (bytes : List ℕ). map decode (rowsIn bytes)) part-is ∙ part-legs class (ladder-read contents group is good .passed) in
+        (ladder-refusal, simp passes (sym (ap of rows)))
 
   -- the parts of the four classes, of any bytes
   part-handed : (class : ℕ) → 1 ≤ class → class ≤ 4 → length (rowsIn (partOf s class)) ≤ mostRows → Handed class (partOf s class)
@@ -61,11 +84,6 @@ module _ (s : List ℕ) where
 
   pub commodity-handed : Handed 4 (partOf s 4)
   commodity-handed = part-handed 4 (omega arith) (omega arith) (omega (arith, handed-out s .few))
-
-  -- its rows, of an accepted book
-  pub part-legs : (class : ℕ) → refusalOf s .number ≡ 0 → map decode (rowsIn (partOf s class)) ≡ legsOf s class
-  unfolding legsOf rowsOf
-  part-legs class e = rw (accepted-part s class (accepted s e))
 
   -- what a class is handed
   legs : ℕ → List Row
