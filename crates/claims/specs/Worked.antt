@@ -63,49 +63,60 @@ refuses book number row = record { given = shown (reportOf book); expected = num
 abbrev pub falls : (days coupon band : ℕ) → Worked
 falls days coupon band = record { given = interestBand (decode (leg 7 1 days coupon 1 0)) ∷ []; expected = band ∷ [] }
 
--- E4's two books
-abbrev pub nearBook : List ℕ
-nearBook = interestBook (government 9 270 75 0 ∷ government 9 900 0 30 ∷ [])
+-- E2: the interest example of the Amendment, C.2
+abbrev pub interestExample : List ℕ
+interestExample =
+    interestBook
+    (leg 7 2 2880 800 13330 0
+    ∷ government 7 60 75000 0
+    ∷ government 7 270 150000 0
+    ∷ government 7 2880 0 150000
+    ∷ government 7 180 0 50000
+    ∷ government 7 1260 50000 0
+    ∷ [])
 
-abbrev pub farBook : List ℕ
-farBook = interestBook (government 9 900 30 0 ∷ government 9 6000 0 10 ∷ [])
+-- E3: one bond in each zone, the middle one short
+abbrev pub threeZones : List ℕ
+threeZones = interestBook (government 31 270 75 0 ∷ government 31 900 0 30 ∷ government 31 6000 10 0 ∷ [])
+
+-- E4: two books of two zones each
+abbrev pub nearZones : List ℕ
+nearZones = interestBook (government 9 270 75 0 ∷ government 9 900 0 30 ∷ [])
+
+abbrev pub farZones : List ℕ
+farZones = interestBook (government 9 900 30 0 ∷ government 9 6000 0 10 ∷ [])
+
+-- E5: the commodities example of the Amendment, C.3
+abbrev pub commodityExample : List ℕ
+commodityExample =
+    file [] [] [] (commodity 4 150 800 0 ∷ commodity 4 150 0 1000 ∷ commodity 4 600 600 0 ∷ commodity 4 1100 0 600 ∷ [])
+
+-- E6: five currencies and gold
+abbrev pub currencyExample : List ℕ
+currencyExample =
+    file [] []
+    (currency 1 50 0 ∷ currency 2 100 0 ∷ currency 3 150 0 ∷ currency 30 0 20 ∷ currency 31 0 180 ∷ currency 0 0 35 ∷ []) []
+
+-- E9: one foreign exchange row
+abbrev pub oneRow : ℕ → List ℕ
+oneRow amount = file [] [] (currency 5 amount 0 ∷ []) []
 
 unfoldable pub worked : List Worked
 worked =
     -- E1
     costs (replicate 8 0) 0 0 0 0 0 0 0
     -- E2
-    ∷ costs (
-    interestBook (
-    leg 7 2 2880 800 13330 0
-    ∷ government 7 60 75000 0
-    ∷ government 7 270 150000 0
-    ∷ government 7 2880 0 150000
-    ∷ government 7 180 0 50000
-    ∷ government 7 1260 50000 0
-    ∷ []
-    )
-    ) 213280000 4580112500 0 0 0 0 4793392500
+    ∷ costs interestExample 213280000 4580112500 0 0 0 0 4793392500
     -- E3
-    ∷ costs (interestBook (government 31 270 75 0 ∷ government 31 900 0 30 ∷ government 31 6000 10 0 ∷ [])) 0 735000 0 0 0 0 735000
+    ∷ costs threeZones 0 735000 0 0 0 0 735000
     -- E4: two books, and the two joined
-    ∷ costs nearBook 0 210000 0 0 0 0 210000
-    ∷ costs farBook 0 210000 0 0 0 0 210000
-    ∷ costs (joinedBook nearBook farBook (replicate 72 0)) 0 577500 0 0 0 0 577500
+    ∷ costs nearZones 0 210000 0 0 0 0 210000
+    ∷ costs farZones 0 210000 0 0 0 0 210000
+    ∷ costs (joinedBook nearZones farZones (replicate 72 0)) 0 577500 0 0 0 0 577500
     -- E5
-    ∷ costs (file [] [] [] (commodity 4 150 800 0 ∷ commodity 4 150 0 1000 ∷ commodity 4 600 600 0 ∷ commodity 4 1100 0 600 ∷ [])) 0 0 0 0 0 79200000 79200000
+    ∷ costs commodityExample 0 0 0 0 0 79200000 79200000
     -- E6
-    ∷ costs (
-    file [] [] (
-    currency 1 50 0
-    ∷ currency 2 100 0
-    ∷ currency 3 150 0
-    ∷ currency 30 0 20
-    ∷ currency 31 0 180
-    ∷ currency 0 0 35
-    ∷ []
-    ) []
-    ) 0 0 0 0 26800000 0 26800000
+    ∷ costs currencyExample 0 0 0 0 26800000 0 26800000
     -- E7
     ∷ falls 700 300 4
     ∷ falls 700 299 5
@@ -115,8 +126,8 @@ worked =
     ∷ falls 7200 299 13
     ∷ falls 7201 299 14
     -- E9
-    ∷ costs (file [] [] (currency 5 1000000000 0 ∷ []) []) 0 0 0 0 80000000000000 0 80000000000000
-    ∷ refuses (file [] [] (currency 5 1000000001 0 ∷ []) []) 9 0
+    ∷ costs (oneRow 1000000000) 0 0 0 0 80000000000000 0 80000000000000
+    ∷ refuses (oneRow 1000000001) 9 0
     -- E10
     ∷ refuses (two 4001 ++ replicate 6 0) 2 0
     ∷ []
