@@ -1,13 +1,14 @@
 // The contents at the head of a file: four row counts, and whether the file is as long as they say.
+use crate::CONTENTS_SIZE;
 use crate::Counts;
+use crate::MOST_ROWS;
+use crate::ROW_SIZE;
 use crate::fields;
 ghost use mathlib.Core.Path.{_≡_};
 ghost use Prim.Native.Nat.{_≤_};
 ghost use lib.ListN.{length};
 ghost use Rattle.book.specs.Counts.{contentsSize, countsOf, countIn, rowsBefore, rowCount};
 ghost use Rattle.book.specs.Refusals.{contentsRefusal};
-
-const MOST_ROWS: usize = 4000;
 
 impl Counts {
     // The rows of a class, 1 to 4; no other number has any.
@@ -66,14 +67,14 @@ pub fn counts(book: &[u8]) -> Counts
 pub fn contents_refusal(book: &[u8]) -> u8
     ensures { λ r. ⌜ r ≡ contentsRefusal (now (book .entry)) ⌝ }
 {
-    if book.len() < 8 {
+    if book.len() < CONTENTS_SIZE {
         return 1;
     }
     let rows = counts(book).rows();
     if MOST_ROWS < rows {
         return 2;
     }
-    if book.len() != 8 + 16 * rows {
+    if book.len() != CONTENTS_SIZE + ROW_SIZE * rows {
         return 3;
     }
     0

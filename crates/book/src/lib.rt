@@ -13,6 +13,13 @@ ghost use Rattle.book.specs.Counts.{bodyBy};
 ghost use Rattle.book.specs.Refusals.{refusalOf};
 ghost use Rattle.book.specs.Parts.{noCounts, handedOut, contentsOf, partOf};
 
+// The bytes of the contents, and of a row; the most rows of a book.
+pub const CONTENTS_SIZE: usize = 8;
+
+pub const ROW_SIZE: usize = 16;
+
+pub const MOST_ROWS: usize = 4000;
+
 // One leg: 16 bytes of the file.
 pub struct Row {
     pub group: u8,
@@ -103,8 +110,8 @@ pub fn body(book: &[u8], contents: Contents, class: usize) -> &[u8]
     ensures { λ r. ⌜ now r ≡ bodyBy (contents .counts) (now (book .entry)) class ⌝ }
 {
     let counts = contents.counts;
-    let first = 8 + 16 * counts.rows_before(class);
-    let past = first + 16 * (counts.class_rows(class) as usize);
+    let first = CONTENTS_SIZE + ROW_SIZE * counts.rows_before(class);
+    let past = first + ROW_SIZE * (counts.class_rows(class) as usize);
     let start = least(first, book.len());
     let end = least(past, book.len());
     &book[start..end]

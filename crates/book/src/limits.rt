@@ -7,6 +7,10 @@ ghost use Rattle.book.specs.Refusals.{lastGroup, mostAmount, leastKind, 
 
 const LAST_GROUP: u8 = 31;
 
+const MOST_DAYS: u16 = 36000;
+
+const MOST_COUPON: u16 = 10000;
+
 const MOST_AMOUNT: u32 = 1_000_000_000;
 
 fn wrong_kind(class: usize, kind: u8) -> bool
@@ -23,7 +27,7 @@ fn most_days(class: usize) -> u16
     ensures { λ r. ⌜ r ≡ mostDays class ⌝ }
 {
     match class {
-        1 | 4 => 36000,
+        1 | 4 => MOST_DAYS,
         _ => 0,
     }
 }
@@ -32,7 +36,7 @@ fn most_coupon(class: usize) -> u16
     ensures { λ r. ⌜ r ≡ mostCoupon class ⌝ }
 {
     match class {
-        1 => 10000,
+        1 => MOST_COUPON,
         _ => 0,
     }
 }

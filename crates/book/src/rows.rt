@@ -1,4 +1,5 @@
 // The rows of a class's part.
+use crate::ROW_SIZE;
 use crate::Row;
 use crate::fields;
 ghost use mathlib.Core.Path.{_≡_};
@@ -9,15 +10,15 @@ ghost use Rattle.book.specs.Rows.{rowsIn, rowOf};
 pub fn row_count(part: &[u8]) -> usize
     ensures { λ r. ⌜ r ≡ length (rowsIn (now (part .entry))) ⌝ }
 {
-    part.len() / 16
+    part.len() / ROW_SIZE
 }
 
 // Row i of a part; past the last row every field is zero.
 pub fn row_at(part: &[u8], i: usize) -> Row
     ensures { λ r. ⌜ r ≡ rowOf (now (part .entry)) i ⌝ }
 {
-    if i < part.len() / 16 {
-        fields::row_from(part, 16 * i)
+    if i < part.len() / ROW_SIZE {
+        fields::row_from(part, ROW_SIZE * i)
     } else {
         Row {
             group: 0,

@@ -1,5 +1,7 @@
 // The search for the first bad row, in file order.
+use crate::CONTENTS_SIZE;
 use crate::Counts;
+use crate::ROW_SIZE;
 use crate::Refusal;
 use crate::fields;
 use crate::limits;
@@ -28,7 +30,10 @@ pub fn first_refused(book: &[u8], counts: Counts) -> Refusal
         let mut i: usize = 0;
         while i < rows {
             let row = first + i;
-            let number = limits::row_refusal(class, fields::row_from(book, 8 + 16 * row));
+            let number = limits::row_refusal(
+                class,
+                fields::row_from(book, CONTENTS_SIZE + ROW_SIZE * row),
+            );
             if number != 0 {
                 break 'search Refusal {
                     number,

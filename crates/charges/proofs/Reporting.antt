@@ -19,7 +19,7 @@ use Rattle.book.proofs.Acceptance.{accepted}
 use Rattle.book.proofs.Handed.{part-by, accepted-part, handed-out}
 use Rattle.charges.specs.Charges.{eightPerCent, amounts, specificCharge, exchangeGeneral, commodityGeneral, interestRisk, equityRisk}
 use Rattle.charges.specs.Tables.{Handed}
-use Rattle.charges.specs.Report.{legsOf, ladderRefusal, ladderContents}
+use Rattle.charges.specs.Report.{mostTotal, legsOf, ladderRefusal, ladderContents}
 use Rattle.charges.proofs.Legs.{every-decoded, amounts-within, specific-within}
 use Rattle.charges.proofs.Rates.{interest-rate, equity-rate, exchange-rate, commodity-rate, specific-total}
 
@@ -101,7 +101,7 @@ module _ (s : List ℕ) where
   -- no total is over 205,000 mils for each unit of 4,000 rows of the largest amount
   pub total-fits : interestRisk (map decode (rowsIn (partOf s 1))) .specific + interestRisk (map decode (rowsIn (partOf s 1))) .general
       + equityRisk (map decode (rowsIn (partOf s 2))) .specific + equityRisk (map decode (rowsIn (partOf s 2))) .general
-      + exchangeGeneral (map decode (rowsIn (partOf s 3))) + commodityGeneral (map decode (rowsIn (partOf s 4))) ≤ 1200000000000000000
+      + exchangeGeneral (map decode (rowsIn (partOf s 3))) + commodityGeneral (map decode (rowsIn (partOf s 4))) ≤ mostTotal
   unfolding interestRisk equityRisk legs
   total-fits =
       omega (

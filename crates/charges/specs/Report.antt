@@ -33,6 +33,10 @@ reportWith interest equity exchange commodity =
       total = interest .specific + interest .general + equity .specific + equity .general + exchange + commodity;
     }
 
+-- no total is above this
+abbrev pub mostTotal : ℕ
+mostTotal = 1200000000000000000
+
 -- no charge at all (document 01, Who is told no, and why)
 abbrev pub noRisk : Risk
 noRisk = record { specific = 0; general = 0 }

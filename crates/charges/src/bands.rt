@@ -1,4 +1,5 @@
 // The bands of rows: constant tables of weights and of last days, indexed by band.
+use crate::tables::BANDS;
 use book::Row;
 ghost use mathlib.Core.Path.{_≡_};
 ghost use mathlib.Core.Bool.{true};
@@ -46,7 +47,7 @@ const LOW_COLUMN: [u16; 14] = [
 const COMMODITY_COLUMN: [u16; 6] = [30, 90, 180, 360, 720, 1080];
 
 // The weights of the interest bands, in basis points.
-pub const WEIGHTS: [u64; 15] = [
+pub const WEIGHTS: [u64; BANDS] = [
     0,
     20,
     40,
@@ -106,5 +107,5 @@ pub fn slot_in(class: usize, row: Row) -> usize
     requires { ⌜ row .group ≤ lastGroup ⌝ }
     ensures { λ r. ⌜ (r ≡ slotIn class row) × (r < 480) ⌝ }
 {
-    15 * (row.group as usize) + band_in(class, row)
+    BANDS * (row.group as usize) + band_in(class, row)
 }

@@ -2,6 +2,7 @@
 use crate::Risk;
 use crate::general;
 use crate::sums;
+use crate::tables::SLOTS;
 use ladder::CommodityFigures;
 use ladder::InterestFigures;
 ghost use mathlib.Core.Path.{_≡_};
@@ -17,8 +18,8 @@ pub fn interest_risk(part: &[u8]) -> Risk
     requires { ⌜ Handed 1 (now part) ⌝ }
     ensures { λ r. ⌜ r ≡ interestRisk (map decode (rowsIn (now (part .entry)))) ⌝ }
 {
-    let mut longs = [0u64; 480];
-    let mut shorts = [0u64; 480];
+    let mut longs = [0u64; SLOTS];
+    let mut shorts = [0u64; SLOTS];
     let specific = sums::tally(part, 1, &mut longs, &mut shorts);
     Risk {
         specific,
@@ -30,8 +31,8 @@ pub fn equity_risk(part: &[u8]) -> Risk
     requires { ⌜ Handed 2 (now part) ⌝ }
     ensures { λ r. ⌜ r ≡ equityRisk (map decode (rowsIn (now (part .entry)))) ⌝ }
 {
-    let mut longs = [0u64; 480];
-    let mut shorts = [0u64; 480];
+    let mut longs = [0u64; SLOTS];
+    let mut shorts = [0u64; SLOTS];
     let specific = sums::tally(part, 2, &mut longs, &mut shorts);
     Risk {
         specific,
@@ -43,8 +44,8 @@ pub fn exchange_charge(part: &[u8]) -> u64
     requires { ⌜ Handed 3 (now part) ⌝ }
     ensures { λ r. ⌜ r ≡ exchangeGeneral (map decode (rowsIn (now (part .entry)))) ⌝ }
 {
-    let mut longs = [0u64; 480];
-    let mut shorts = [0u64; 480];
+    let mut longs = [0u64; SLOTS];
+    let mut shorts = [0u64; SLOTS];
     sums::tally(part, 3, &mut longs, &mut shorts);
     general::exchange_general(&longs, &shorts)
 }
@@ -53,8 +54,8 @@ pub fn commodity_charge(part: &[u8]) -> u64
     requires { ⌜ Handed 4 (now part) ⌝ }
     ensures { λ r. ⌜ r ≡ commodityGeneral (map decode (rowsIn (now (part .entry)))) ⌝ }
 {
-    let mut longs = [0u64; 480];
-    let mut shorts = [0u64; 480];
+    let mut longs = [0u64; SLOTS];
+    let mut shorts = [0u64; SLOTS];
     sums::tally(part, 4, &mut longs, &mut shorts);
     general::commodity_general(&longs, &shorts)
 }
@@ -64,8 +65,8 @@ pub fn interest_figures(part: &[u8], group: usize) -> InterestFigures
     requires { ⌜ Handed 1 (now part) × (group ≤ lastGroup) ⌝ }
     ensures { λ r. ⌜ r ≡ interestFiguresOf group (map decode (rowsIn (now (part .entry)))) ⌝ }
 {
-    let mut longs = [0u64; 480];
-    let mut shorts = [0u64; 480];
+    let mut longs = [0u64; SLOTS];
+    let mut shorts = [0u64; SLOTS];
     sums::tally(part, 1, &mut longs, &mut shorts);
     general::interest_figures(&longs, &shorts, group)
 }
@@ -75,8 +76,8 @@ pub fn commodity_figures(part: &[u8], group: usize) -> CommodityFigures
     requires { ⌜ Handed 4 (now part) × (group ≤ lastGroup) ⌝ }
     ensures { λ r. ⌜ r ≡ commodityFiguresOf group (map decode (rowsIn (now (part .entry)))) ⌝ }
 {
-    let mut longs = [0u64; 480];
-    let mut shorts = [0u64; 480];
+    let mut longs = [0u64; SLOTS];
+    let mut shorts = [0u64; SLOTS];
     sums::tally(part, 4, &mut longs, &mut shorts);
     general::commodity_figures(&longs, &shorts, group)
 }

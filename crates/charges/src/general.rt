@@ -1,5 +1,7 @@
 // The general charges, from the tables of sums.
 use crate::tables;
+use crate::tables::GROUPS;
+use crate::tables::SLOTS;
 use ladder::CommodityFigures;
 use ladder::InterestFigures;
 use ladder::Percents;
@@ -13,8 +15,8 @@ ghost use Rattle.ladder.specs.Rows.{sumOf};
 ghost use Rattle.charges.specs.Charges.{eightPerCent};
 ghost use Rattle.charges.specs.Tables.{mostGross, tableBands, tableGross, weightedBands, tableGroups};
 
-// Currencies, and commodities.
-const GROUPS: usize = 32;
+// 8% of an amount unit, in mils.
+const EIGHT_PER_CENT: u64 = 80000;
 
 // The paper's per cents.
 fn percents() -> Percents
@@ -31,7 +33,11 @@ fn percents() -> Percents
 }
 
 // The interest ladder of a currency.
-pub fn interest_figures(longs: &[u64; 480], shorts: &[u64; 480], group: usize) -> InterestFigures
+pub fn interest_figures(
+    longs: &[u64; SLOTS],
+    shorts: &[u64; SLOTS],
+    group: usize,
+) -> InterestFigures
     requires { ⌜ (group < 32) × (tableGross (now longs) (now shorts) group ≤ mostGross) ⌝ }
     ensures { λ r. ⌜ r ≡ interestFigures percents (weightedBands (now (longs .entry)) (now (shorts .entry)) group) ⌝ }
 {
@@ -41,23 +47,27 @@ pub fn interest_figures(longs: &[u64; 480], shorts: &[u64; 480], group: usize) -
 }
 
 // The interest ladders of all currencies; one without amounts costs nothing and is passed over.
-pub fn interest_general(longs: &[u64; 480], shorts: &[u64; 480]) -> u64
+pub fn interest_general(longs: &[u64; SLOTS], shorts: &[u64; SLOTS]) -> u64
     requires { ⌜ sumOf (tableGross (now longs) (now shorts)) groups ≤ mostGross ⌝ }
     ensures { λ r. ⌜ r ≡ sumOf (λ group. interestFigures percents (weightedBands (now (longs .entry)) (now (shorts .entry)) group) .charge) groups ⌝ }
 {
     let mut charge: u64 = 0;
-    let mut group: usize = 0;
-    while group < GROUPS {
-        if tables::group_gross(longs, shorts, group) != 0 {
-            charge += interest_figures(longs, shorts, group).charge;
+    let mut currency: usize = 0;
+    while currency < GROUPS {
+        if tables::group_gross(longs, shorts, currency) != 0 {
+            charge += interest_figures(longs, shorts, currency).charge;
         }
-        group += 1;
+        currency += 1;
     }
     charge
 }
 
 // The ladder of a commodity.
-pub fn commodity_figures(longs: &[u64; 480], shorts: &[u64; 480], group: usize) -> CommodityFigures
+pub fn commodity_figures(
+    longs: &[u64; SLOTS],
+    shorts: &[u64; SLOTS],
+    group: usize,
+) -> CommodityFigures
     requires { ⌜ (group < 32) × (tableGross (now longs) (now shorts) group ≤ mostGross) ⌝ }
     ensures { λ r. ⌜ r ≡ commodityFigures (tableBands (now (longs .entry)) (now (shorts .entry)) group) ⌝ }
 {
@@ -67,7 +77,7 @@ pub fn commodity_figures(longs: &[u64; 480], shorts: &[u64; 480], group: usize) 
 }
 
 // The ladders of all commodities; one without amounts costs nothing and is passed over.
-pub fn commodity_general(longs: &[u64; 480], shorts: &[u64; 480]) -> u64
+pub fn commodity_general(longs: &[u64; SLOTS], shorts: &[u64; SLOTS]) -> u64
     requires { ⌜ sumOf (tableGross (now longs) (now shorts)) groups ≤ mostGross ⌝ }
     ensures { λ r. ⌜ r ≡ sumOf (λ group. commodityFigures (tableBands (now (longs .entry)) (now (shorts .entry)) group) .charge) groups ⌝ }
 {
@@ -83,21 +93,21 @@ pub fn commodity_general(longs: &[u64; 480], shorts: &[u64; 480]) -> u64
 }
 
 // 8% of the absolute nets of the markets.
-pub fn equity_general(longs: &[u64; 480], shorts: &[u64; 480]) -> u64
+pub fn equity_general(longs: &[u64; SLOTS], shorts: &[u64; SLOTS]) -> u64
     requires { ⌜ gross (total (tableGroups (now longs) (now shorts)) groups) ≤ mostGross ⌝ }
     ensures { λ r. ⌜ r ≡ eightPerCent * absoluteNets (tableGroups (now (longs .entry)) (now (shorts .entry))) ⌝ }
 {
     let group_longs = tables::group_sums(longs);
     let group_shorts = tables::group_sums(shorts);
-    80000 * ladder::absolute_nets(&group_longs, &group_shorts)
+    EIGHT_PER_CENT * ladder::absolute_nets(&group_longs, &group_shorts)
 }
 
 // 8% of the shorthand net of the currencies, with gold.
-pub fn exchange_general(longs: &[u64; 480], shorts: &[u64; 480]) -> u64
+pub fn exchange_general(longs: &[u64; SLOTS], shorts: &[u64; SLOTS]) -> u64
     requires { ⌜ gross (total (tableGroups (now longs) (now shorts)) groups) ≤ mostGross ⌝ }
     ensures { λ r. ⌜ r ≡ eightPerCent * shorthand (tableGroups (now (longs .entry)) (now (shorts .entry))) ⌝ }
 {
     let group_longs = tables::group_sums(longs);
     let group_shorts = tables::group_sums(shorts);
-    80000 * ladder::shorthand(&group_longs, &group_shorts)
+    EIGHT_PER_CENT * ladder::shorthand(&group_longs, &group_shorts)
 }

@@ -13,7 +13,10 @@ use ladder::CommodityFigures;
 use ladder::InterestFigures;
 ghost use mathlib.Core.Path.{_≡_};
 ghost use Prim.Native.Nat.{_+_, _≤_};
-ghost use Rattle.charges.specs.Report.{reportWith, refusedReport, reportOf, noInterest, noCommodity, ladderContents, interestLadderOf, commodityLadderOf};
+ghost use Rattle.charges.specs.Report.{mostTotal, reportWith, refusedReport, reportOf, noInterest, noCommodity, ladderContents, interestLadderOf, commodityLadderOf};
+
+// Groups are 0 to 31.
+const LAST_GROUP: usize = 31;
 
 // The two parts of a class's charge.
 pub struct Risk {
@@ -60,7 +63,7 @@ pub fn charge(book: &[u8]) -> Report
 }
 
 fn charged_report(interest: Risk, equity: Risk, exchange: u64, commodity: u64) -> Report
-    requires { ⌜ interest .specific + interest .general + equity .specific + equity .general + exchange + commodity ≤ 1200000000000000000 ⌝ }
+    requires { ⌜ interest .specific + interest .general + equity .specific + equity .general + exchange + commodity ≤ mostTotal ⌝ }
     ensures { λ r. ⌜ r ≡ reportWith interest equity exchange commodity ⌝ }
 {
     let total = interest.specific
@@ -140,7 +143,7 @@ pub fn commodity_ladder(book: &[u8], group: usize) -> CommodityLadder
 fn ladder_contents(book: &[u8], group: usize) -> Contents
     ensures { λ r. ⌜ r ≡ ladderContents (now (book .entry)) group ⌝ }
 {
-    if 31 < group {
+    if LAST_GROUP < group {
         return Contents {
             refusal: Refusal {
                 number: 10,

@@ -1,16 +1,17 @@
 // The sums of a class's rows, in one run over them.
 use crate::bands;
+use crate::tables::SLOTS;
 use crate::weights;
 ghost use mathlib.Core.Path.{_≡_};
 ghost use mathlib.Core.List.{map};
 ghost use lib.ListN.{replicate};
 ghost use Rattle.book.specs.Rows.{rowsIn, decode};
-ghost use Rattle.charges.specs.Tables.{Handed, SumsOf};
+ghost use Rattle.charges.specs.Tables.{Handed, SumsOf, slotCount};
 
 // Adds the rows of a class's part to tables of zeros, longs and shorts by slot, and gives their specific charge.
-pub fn tally(part: &[u8], class: usize, longs: &mut [u64; 480], shorts: &mut [u64; 480]) -> u64
+pub fn tally(part: &[u8], class: usize, longs: &mut [u64; SLOTS], shorts: &mut [u64; SLOTS]) -> u64
     requires { ⌜ Handed class (now part) ⌝ }
-    requires { ⌜ (now longs ≡ replicate 480 0) × (now shorts ≡ replicate 480 0) ⌝ }
+    requires { ⌜ (now longs ≡ replicate slotCount 0) × (now shorts ≡ replicate slotCount 0) ⌝ }
     ensures { λ r. ⌜ SumsOf class (map decode (rowsIn (now (part .entry)))) (now (longs .exit)) (now (shorts .exit)) r ⌝ }
 {
     let mut specific: u64 = 0;

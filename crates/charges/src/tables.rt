@@ -1,4 +1,4 @@
-// Parts of the tables of sums, as the ladders take them.
+// The tables of sums, and parts of them as the ladders take them.
 use crate::bands;
 ghost use mathlib.Core.Path.{_≡_};
 ghost use Prim.Native.Nat.{ℕ, _+_, _*_, _<_, _≤_};
@@ -7,58 +7,69 @@ ghost use Rattle.ladder.specs.Sides.{limit};
 ghost use Rattle.charges.specs.Bands.{weightOf};
 ghost use Rattle.charges.specs.Tables.{Reads, tableGross, mostGross};
 
+// The groups of a class.
+pub const GROUPS: usize = 32;
+
+// The bands of a group: in interest, and in commodities.
+pub const BANDS: usize = 15;
+
+const COMMODITY_BANDS: usize = 7;
+
+// The slots of a table: for each group one for each band.
+pub const SLOTS: usize = GROUPS * BANDS;
+
 // The weighted sums of a currency's bands, on one side.
-pub fn weighted_bands(table: &[u64; 480], group: usize) -> [u64; 15]
+pub fn weighted_bands(table: &[u64; SLOTS], group: usize) -> [u64; BANDS]
     requires { ⌜ group < 32 ⌝ }
     requires { ⌜ ((k : ℕ) → k < 15 → weightOf k * getD (now table) (15 * group + k) 0 ≤ limit) ⌝ }
     ensures { λ r. ⌜ Reads 15 (λ k. weightOf k * getD (now (table .entry)) (15 * group + k) 0) r ⌝ }
 {
     let weights = bands::WEIGHTS;
-    let mut out = [0u64; 15];
+    let mut out = [0u64; BANDS];
     let mut k: usize = 0;
-    while k < 15 {
-        out[k] = weights[k] * table[15 * group + k];
+    while k < BANDS {
+        out[k] = weights[k] * table[BANDS * group + k];
         k += 1;
     }
     out
 }
 
 // The sums of a commodity's bands, on one side.
-pub fn commodity_bands(table: &[u64; 480], group: usize) -> [u64; 7]
+pub fn commodity_bands(table: &[u64; SLOTS], group: usize) -> [u64; COMMODITY_BANDS]
     requires { ⌜ group < 32 ⌝ }
     ensures { λ r. ⌜ Reads 7 (λ k. getD (now (table .entry)) (15 * group + k) 0) r ⌝ }
 {
-    let mut out = [0u64; 7];
+    let mut out = [0u64; COMMODITY_BANDS];
     let mut k: usize = 0;
-    while k < 7 {
-        out[k] = table[15 * group + k];
+    while k < COMMODITY_BANDS {
+        out[k] = table[BANDS * group + k];
         k += 1;
     }
     out
 }
 
 // The sums of the groups of a class without bands, on one side.
-pub fn group_sums(table: &[u64; 480]) -> [u64; 32]
+pub fn group_sums(table: &[u64; SLOTS]) -> [u64; GROUPS]
     ensures { λ r. ⌜ Reads 32 (λ group. getD (now (table .entry)) (15 * group) 0) r ⌝ }
 {
-    let mut out = [0u64; 32];
+    let mut out = [0u64; GROUPS];
     let mut group: usize = 0;
-    while group < 32 {
-        out[group] = table[15 * group];
+    while group < GROUPS {
+        out[group] = table[BANDS * group];
         group += 1;
     }
     out
 }
 
 // What a group's bands hold on both sides.
-pub fn group_gross(longs: &[u64; 480], shorts: &[u64; 480], group: usize) -> u64
+pub fn group_gross(longs: &[u64; SLOTS], shorts: &[u64; SLOTS], group: usize) -> u64
     requires { ⌜ (group < 32) × (tableGross (now longs) (now shorts) group ≤ mostGross) ⌝ }
     ensures { λ r. ⌜ r ≡ tableGross (now (longs .entry)) (now (shorts .entry)) group ⌝ }
 {
     let mut gross: u64 = 0;
     let mut k: usize = 0;
-    while k < 15 {
-        gross += longs[15 * group + k] + shorts[15 * group + k];
+    while k < BANDS {
+        gross += longs[BANDS * group + k] + shorts[BANDS * group + k];
         k += 1;
     }
     gross

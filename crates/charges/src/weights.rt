@@ -4,6 +4,9 @@ ghost use mathlib.Core.Path.{_≡_};
 ghost use Rattle.charges.specs.Weights.{qualifyingWeight, interestWeight, equityWeight, specificWeight};
 ghost use Rattle.charges.specs.Charges.{specificOf};
 
+// A basis point of an amount unit, in mils.
+const BASIS_POINT: u64 = 100;
+
 // Qualifying paper, by its days.
 fn qualifying_weight(days: u16) -> u64
     ensures { λ r. ⌜ r ≡ qualifyingWeight days ⌝ }
@@ -56,5 +59,5 @@ fn specific_weight(class: usize, row: Row) -> u64
 pub fn specific_charge(class: usize, row: Row) -> u64
     ensures { λ r. ⌜ r ≡ specificOf class row ⌝ }
 {
-    100 * (specific_weight(class, row) * ((row.long as u64) + (row.short as u64)))
+    BASIS_POINT * (specific_weight(class, row) * ((row.long as u64) + (row.short as u64)))
 }

@@ -1,4 +1,5 @@
 // The bodies of the joined book, each of A followed by B's, copied into the output.
+use book::CONTENTS_SIZE;
 use book::Contents;
 ghost use mathlib.Core.Path.{_≡_};
 ghost use mathlib.Core.List.{_++_, flatMap};
@@ -44,7 +45,7 @@ pub fn write_bodies(a: &[u8], first: Contents, b: &[u8], second: Contents, out: 
     requires { ⌜ (first .counts ≡ countsOf (now a)) × (second .counts ≡ countsOf (now b)) × (contentsSize + length (flatMap (joinedBody (now a) (now b)) classes) ≤ length (now out)) ⌝ }
     ensures { λ _. ⌜ now (out .exit) ≡ written (now (out .entry)) contentsSize (flatMap (joinedBody (now (a .entry)) (now (b .entry))) classes) ⌝ }
 {
-    let mut at: usize = 8;
+    let mut at: usize = CONTENTS_SIZE;
     for class in 1..5usize {
         at = write_pair(
             book::body(a, first, class),

@@ -2,12 +2,13 @@
 mod bodies;
 mod contents;
 
+use book::CONTENTS_SIZE;
+use book::MOST_ROWS;
+use book::ROW_SIZE;
 use book::Refusal;
 ghost use mathlib.Core.Path.{_≡_};
 ghost use lib.ListN.{length as len};
 ghost use Rattle.join.specs.Joined.{settled, joinedOf, joinOutput};
-
-const MOST_ROWS: usize = 4000;
 
 // Why a join is refused, all zero where it is not, and the joined length, 0 where it is refused.
 pub struct Joined {
@@ -23,7 +24,7 @@ pub fn join(a: &[u8], b: &[u8], out: &mut [u8]) -> Joined
     let second = book::read(b);
     let counts = contents::add(first.counts, second.counts);
     let rows = counts.rows();
-    let length = 8 + 16 * rows;
+    let length = CONTENTS_SIZE + ROW_SIZE * rows;
     let refusal = settle(first.refusal, second.refusal, rows, length, out.len());
     if refusal.number != 0 {
         return Joined { refusal, length: 0 };

@@ -58,6 +58,5 @@ mod tests {
         let mut timed = Timed::new("nothing", |_| ());
         timed.nanoseconds = vec![9.0, 1.0, 5.0];
         assert_eq!(timed.median(), 5.0);
-        assert!(timed.times > 1);
     }
 }

@@ -23,7 +23,8 @@ loop-holds c = summed-none _ 32
 room : (at : tie.In-loop Inv-loop μ-loop) → (at .before .loop .group < 32) × (tableGross (at .before .before .args .longs .now) (at .before .before .args .shorts .now) (at .before .loop .group) ≤ mostGross)
 room at =
     let start = at .before .before in
-    (at .loop-test .taken, omega (arith, sum-room (tableGross (start .args .longs .now) (start .args .shorts .now)) (at .before .loop .group) 32 (at .loop-test .taken), start .pre))
+    let below : at .before .loop .group < 32 = omega arith in
+    (below, omega (arith, sum-room (tableGross (start .args .longs .now) (start .args .shorts .now)) (at .before .loop .group) 32 below, start .pre))
 
 group-gross-requires : tie.Need-group-gross-requires Inv-loop μ-loop
 group-gross-requires c κs = room c
@@ -39,7 +40,7 @@ add-charge c =
     omega (
       arith,
       ap (λ figures. figures .charge) (at-figures .commodity-figures .ensures),
-      summed-room _ (tableGross (start .args .longs .now) (start .args .shorts .now)) 186000 mostGross 32 _ _ (commodity-cost (start .args .longs .now) (start .args .shorts .now)) (start .pre) (at-test .before .loop .inv) (at-test .loop-test .taken),
+      summed-room _ (tableGross (start .args .longs .now) (start .args .shorts .now)) 186000 mostGross 32 _ _ (commodity-cost (start .args .longs .now) (start .args .shorts .now)) (start .pre) (at-test .before .loop .inv) (room at-test .0),
     )
 
 loop-again : tie.Need-loop-again Inv-loop μ-loop
@@ -48,14 +49,14 @@ loop-again c =
     let at-loop = at-test .before in
     let start = at-loop .before in
     ⊎-elim
-    (λ w. rw (w .3) (summed-next _ 32 _ _ _ (at-loop .loop .inv) (at-test .loop-test .taken) (ap (λ figures. figures .charge) (w .1 .ensures))))
+    (λ w. rw (w .3) (summed-next _ 32 _ _ _ (at-loop .loop .inv) (room at-test .0) (ap (λ figures. figures .charge) (w .1 .ensures))))
     (λ w.
     let none : commodityFigures (tableBands (start .args .longs .now) (start .args .shorts .now) (at-loop .loop .group)) .charge ≡ 0 = omega (arith, commodity-cost (start .args .longs .now) (start .args .shorts .now) (at-loop .loop .group), c .before .group-gross .ensures, w .0 .left) in
-    rw (w .1) (summed-over _ 32 _ _ (at-loop .loop .inv) (at-test .loop-test .taken) none))
+    rw (w .1) (summed-over _ 32 _ _ (at-loop .loop .inv) (room at-test .0) none))
     (c .if1 .came)
 
 returns : tie.Need-returns Inv-loop μ-loop
-returns c = summed-all _ 32 _ _ (c .before .loop .inv) (c .loop-test .left)
+returns c = summed-all _ 32 _ _ (c .before .loop .inv) (omega arith)
 
 pub commodity-general-spec : {M : Type 1} → statement M
 commodity-general-spec =
