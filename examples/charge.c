@@ -1,4 +1,4 @@
-/* Charges two small books through the C interface and prints their reports.
+/* Charges some small books through the C interface and prints their reports.
  *
  *     cc -Wall -Wextra -Werror -Iinclude examples/charge.c target/staticlib/libmarket_risk.a -o charge
  */
@@ -23,6 +23,16 @@ static const uint8_t zones[8 + 3 * 16] = {
     7, 1, 0x70, 0x17, 0x20, 0x03, 0, 0, 10, 0, 0, 0, 0,  0, 0, 0,
 };
 
+/* One row of each class, so that no two of the seven figures are equal: other paper, long 1 at 270 days, coupon 300 (0x012c);
+ * diversified shares, long 3; gold, short 2; a commodity, long 1 at 36,000 days (0x8ca0). */
+static const uint8_t classes[8 + 4 * 16] = {
+    1, 0, 1, 0, 1, 0, 1, 0,
+    2, 3, 0x0e, 0x01, 0x2c, 0x01, 0, 0, 1, 0, 0, 0, 0, 0, 0, 0,
+    1, 2, 0,    0,    0,    0,    0, 0, 3, 0, 0, 0, 0, 0, 0, 0,
+    0, 0, 0,    0,    0,    0,    0, 0, 0, 0, 0, 0, 2, 0, 0, 0,
+    0, 0, 0xa0, 0x8c, 0,    0,    0, 0, 1, 0, 0, 0, 0, 0, 0, 0,
+};
+
 static void print_report(const char *name, const uint8_t *book, size_t len)
 {
     static const char *const figures[7] = {
@@ -45,6 +55,7 @@ int main(void)
 {
     print_report("equity book", equity, sizeof equity);
     print_report("zones book", zones, sizeof zones);
+    print_report("book of four classes", classes, sizeof classes);
     print_report("equity book without its last byte", equity, sizeof equity - 1);
     return 0;
 }

@@ -3,7 +3,8 @@ pub mod Placing
 pub mod Chunks
 pub mod Cutting
 pub mod Bodies
+pub mod Walking
 pub mod Searching
 pub mod Passing
 pub mod Acceptance
-pub mod Handed
+pub mod Handing

@@ -1,26 +1,29 @@
 -- A row passes 4 to 9 exactly when it is clean.
 -- Assumes nothing.
 use mathlib.Core.Path.{_≡_, refl}
-use mathlib.Core.Bool.{Bool, true, false, cond, Bool·beq, _||_, true≢false}
-use mathlib.Core.Logic.{_⊎_, inl, inr}
-use Prim.Native.Nat.{ℕ, suc, _<_}
+use mathlib.Core.Bool.{Bool, true, false, cond, Bool·beq, _||_, or-false, true≢false}
+use mathlib.Core.Logic.{_⊎_, inl, inr, ⊎-elim}
+use Prim.Native.Nat.{ℕ, _+_, _<_}
+use native.Mathlib.Nat.{zero-add, add-zero}
 use native.Mathlib.Omega.{arith}
-use lib.Dec.{eqb}
+use lib.Dec.{ltb, eqb}
 use borrow.Author.Tests.{ltb-false, le-ltb, eqb-true, eqb-false, eq-eqb, ne-eqb}
+use Rattle.sums.proofs.Cases.{untaken, neither}
 use Rattle.book.specs.Rows.{Row}
-use Rattle.book.specs.Refusals.{rowRefusal}
+use Rattle.book.specs.Refusals.{groupRefusal, termsRefusal, amountsRefusal, orElse, rowRefusal}
 use Rattle.book.specs.Accepted.{Clean}
 
--- a test that would refuse did not hold
-pub untaken : (test : Bool) (n rest : ℕ) → cond test (suc n) rest ≡ 0 → (test ≡ false) × (rest ≡ 0)
-untaken true n rest e = let never : ⊥ = omega arith in absurd never
-untaken false n rest e = (refl, e)
+-- neither of two refusals applies
+none-of : (a b : ℕ) → orElse a b ≡ 0 → (a ≡ 0) × (b ≡ 0)
+unfolding orElse
+none-of a b = go (eqb a 0) refl
+  where
+    go : (test : Bool) → eqb a 0 ≡ test → cond test b a ≡ 0 → (a ≡ 0) × (b ≡ 0)
+    go true t e = (eqb-true a 0 t, e)
+    go false t e = absurd (eqb-false a 0 t e)
 
-neither : (a b : Bool) → (a || b) ≡ false → (a ≡ false) × (b ≡ false)
-neither true b e = absurd (true≢false e)
-neither false b e = (refl, e)
-
-one-side : (long short : ℕ) → Bool·beq (eqb long 0) (eqb short 0) ≡ false → ((0 < long) × (short ≡ 0)) ⊎ ((long ≡ 0) × (0 < short))
+-- exactly one side is not zero
+pub one-side : (long short : ℕ) → Bool·beq (eqb long 0) (eqb short 0) ≡ false → ((0 < long) × (short ≡ 0)) ⊎ ((long ≡ 0) × (0 < short))
 one-side long short = go (eqb long 0) refl (eqb short 0) refl
   where
     go : (l : Bool) → eqb long 0 ≡ l → (s : Bool) → eqb short 0 ≡ s → Bool·beq l s ≡ false → ((0 < long) × (short ≡ 0)) ⊎ ((long ≡ 0) × (0 < short))
@@ -29,35 +32,42 @@ one-side long short = go (eqb long 0) refl (eqb short 0) refl
     go false l true s e = inl (omega (arith, eqb-false long 0 l), eqb-true _ _ s)
     go false l false s e = absurd (true≢false e)
 
+-- so that one of them is over a limit just where their sum is
+pub over-sum : (most long short : ℕ) → Bool·beq (eqb long 0) (eqb short 0) ≡ false → (ltb most long || ltb most short) ≡ ltb most (long + short)
+over-sum most long short e =
+    ⊎-elim
+    (λ h. rw (h .1, add-zero long, le-ltb most 0 (omega arith), or-false))
+    (λ h. rw (h .0, zero-add short, le-ltb most 0 (omega arith)))
+    (one-side long short e)
+
 one-test : (long short : ℕ) → ((0 < long) × (short ≡ 0)) ⊎ ((long ≡ 0) × (0 < short)) → Bool·beq (eqb long 0) (eqb short 0) ≡ false
 one-test long short (inl h) = simp (ne-eqb long 0 (λ e. omega arith), eq-eqb short 0 (h .1))
 one-test long short (inr h) = simp (eq-eqb long 0 (h .0), ne-eqb short 0 (λ e. omega arith))
 
 module _ (class : ℕ) (row : Row) where
   pub passes-clean : rowRefusal class row ≡ 0 → Clean class row
-  unfolding rowRefusal
+  unfolding rowRefusal groupRefusal termsRefusal amountsRefusal
   passes-clean e =
-      let past4 = untaken _ 3 _ e in
-      let past5 = untaken _ 4 _ (past4 .1) in
-      let past6 = untaken _ 5 _ (past5 .1) in
-      let past7 = untaken _ 6 _ (past6 .1) in
-      let past8 = untaken _ 7 _ (past7 .1) in
-      let past9 = untaken _ 8 _ (past8 .1) in
-      let kind = neither _ _ (past5 .0) in
-      let amount = neither _ _ (past9 .0) in
+      let past5 = none-of _ _ e in
+      let past7 = none-of _ _ (past5 .1) in
+      let of-group = untaken _ 3 _ (past5 .0) in
+      let of-kind = neither _ _ (untaken _ 4 0 (of-group .1) .0) in
+      let of-days = untaken _ 5 _ (past7 .0) in
+      let of-sides = untaken _ 7 _ (past7 .1) in
+      let of-amount = neither _ _ (untaken _ 8 0 (of-sides .1) .0) in
       record {
-        group = ltb-false _ _ (past4 .0);
-        kind-from = ltb-false _ _ (kind .0);
-        kind-to = ltb-false _ _ (kind .1);
-        days = ltb-false _ _ (past6 .0);
-        coupon = ltb-false _ _ (past7 .0);
-        one-side = one-side _ _ (past8 .0);
-        long = ltb-false _ _ (amount .0);
-        short = ltb-false _ _ (amount .1);
+        group = ltb-false _ _ (of-group .0);
+        kind-from = ltb-false _ _ (of-kind .0);
+        kind-to = ltb-false _ _ (of-kind .1);
+        days = ltb-false _ _ (of-days .0);
+        coupon = ltb-false _ _ (untaken _ 6 0 (of-days .1) .0);
+        one-side = one-side _ _ (of-sides .0);
+        long = ltb-false _ _ (of-amount .0);
+        short = ltb-false _ _ (of-amount .1);
       }
 
   pub clean-passes : Clean class row → rowRefusal class row ≡ 0
-  unfolding rowRefusal
+  unfolding rowRefusal groupRefusal termsRefusal amountsRefusal orElse
   clean-passes clean =
       simp (
         le-ltb _ _ (clean .group),

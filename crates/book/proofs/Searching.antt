@@ -1,118 +1,97 @@
--- The search for the first bad row: what is still to be searched at each class and row of a book that is as long as its counts say.
+-- Going through the rows of a book, class by class: where one stands, and that the refusal is that of the first bad leg.
 -- Assumes nothing.
 use mathlib.Core.Path.{_≡_, refl, sym, ap, _∙_}
-use mathlib.Core.List.{List, [], _∷_, _++_, map, flatMap}
-use Prim.Native.Nat.{ℕ, zero, suc, _+_, _-_, _*_, _≤_, _<_}
-use native.Mathlib.Nat.{add-zero, add-suc}
+use mathlib.Core.List.{List, [], _∷_}
+use Prim.Native.Nat.{ℕ, suc, _+_, _*_, _≤_, _<_}
 use native.Mathlib.Numerals.{add-one}
 use native.Mathlib.Omega.{arith}
-use lib.ListN.{length, take, drop, length-map, List·getD-map, drop-of-length-le}
+use lib.ListN.{length, drop, getD, drop-of-length-le}
 use lib.Seq.{drop-cons}
 use borrow.Author.Tests.{eq-eqb, ne-eqb}
-use Rattle.book.specs.Counts.{contentsSize, rowSize, classes, countsOf, countIn, rowsBefore, rowCount}
-use Rattle.book.specs.Rows.{rowsOf, decode}
-use Rattle.book.specs.Refusals.{rowRefusal, refused, classRefusals, firstRefusal, rowsRefusal}
-use Rattle.book.proofs.Placing.{before-none, before-next, before-within}
-use Rattle.book.proofs.Bodies.{class-count, row-bytes}
+use Rattle.book.specs.Counts.{contentsSize, rowSize, countsOf, countIn, rowsBefore, rowCount}
+use Rattle.book.specs.Legs.{Leg, legOf, legsOf}
+use Rattle.book.specs.Refusals.{rowRefusal, refused, firstRefusal}
+use Rattle.book.proofs.Placing.{before-none, before-next, before-all, before-within}
+use Rattle.book.proofs.Walking.{bytesAt, legs-length, leg-at}
 
--- the refusals of the rows from a class on
-unfoldable pub from : List ℕ → ℕ → List ℕ
-unfolding flatMap
-from s class = flatMap (classRefusals s) (drop (class - 1) classes)
-
-from-next : (s : List ℕ) (class : ℕ) → 1 ≤ class → class ≤ 4 → from s class ≡ classRefusals s class ++ from s (class + 1)
-unfolding from
-from-next s zero low high = let never : ⊥ = omega arith in absurd never
-from-next s (suc zero) low high = refl
-from-next s (suc (suc zero)) low high = refl
-from-next s (suc (suc (suc zero))) low high = refl
-from-next s (suc (suc (suc (suc zero)))) low high = refl
-from-next s (suc (suc (suc (suc (suc n))))) low high = let never : ⊥ = omega arith in absurd never
-
--- the search stands at the first row of a class
-pub record AtClass (s : List ℕ) (class first : ℕ) : Type 0 where
+-- ---- where one stands: at the first row of a class
+pub record AtClass (s : List ℕ) (class row : ℕ) : Type 0 where
   pub low : 1 ≤ class
   pub high : class ≤ 5
-  pub begins : first ≡ rowsBefore (countsOf s) class
-  pub found : rowsRefusal s ≡ firstRefusal first (from s class)
+  pub begins : row ≡ rowsBefore (countsOf s) class
+  pub within : row ≤ rowCount (countsOf s)
 
--- the search has passed i rows of a class
-pub record InClass (s : List ℕ) (class first rows i : ℕ) : Type 0 where
+-- within a class, or at its end
+pub record InClass (s : List ℕ) (class end row : ℕ) : Type 0 where
   pub low : 1 ≤ class
   pub high : class ≤ 4
-  pub begins : first ≡ rowsBefore (countsOf s) class
-  pub counts : rows ≡ countIn (countsOf s) class
-  pub within : first + rows ≤ rowCount (countsOf s)
-  pub passed : i ≤ rows
-  pub found : rowsRefusal s ≡ firstRefusal (first + i) (drop i (classRefusals s class) ++ from s (class + 1))
+  pub ends : end ≡ rowsBefore (countsOf s) (class + 1)
+  pub within : end ≤ rowCount (countsOf s)
+  pub from : rowsBefore (countsOf s) class ≤ row
+  pub to : row ≤ end
 
-pub starts : (s : List ℕ) → AtClass s 1 0
-unfolding rowsRefusal from
-starts s = record { low = omega arith; high = omega arith; begins = sym (before-none (countsOf s) 1 (omega arith)); found = refl }
+module _ (s : List ℕ) where
+  pub starts : AtClass s 1 0
+  starts = record { low = omega arith; high = omega arith; begins = sym (before-none (countsOf s) 1 (omega arith)); within = omega arith }
 
-pub enters : (s : List ℕ) (class first rows : ℕ) → AtClass s class first → class ≤ 4 → rows ≡ countIn (countsOf s) class → InClass s class first rows 0
-enters s class first rows at high count =
-    record {
-      low = at .low;
-      high = high;
-      begins = at .begins;
-      counts = count;
-      within = omega (arith, at .begins, before-within (countsOf s) class);
-      passed = omega arith;
-      found = rw add-zero (at .found ∙ ap (firstRefusal first) (from-next s class (at .low) high));
-    }
-
--- the refusal of the row at a number of the file
-abbrev pub refusalAt : List ℕ → ℕ → ℕ → ℕ
-refusalAt s class row = rowRefusal class (decode (take rowSize (drop (contentsSize + rowSize * row) s)))
-
-module _ (s : List ℕ) (sized : length s ≡ contentsSize + rowSize * rowCount (countsOf s)) (class first rows i : ℕ) (at : InClass s class first rows i) where
-  abbrev numberOf : List ℕ → ℕ
-  numberOf bytes = rowRefusal class (decode bytes)
-
-  -- the row is the next of those that are to be searched
-  ahead : i < rows → drop i (classRefusals s class) ≡ refusalAt s class (first + i) ∷ drop (suc i) (classRefusals s class)
-  unfolding classRefusals
-  ahead more =
-      let below : i < countIn (countsOf s) class = omega (arith, at .counts) in
-      let in-rows : i < length (rowsOf s class) = omega (arith, class-count s sized class) in
-      let in-numbers : i < length (map numberOf (rowsOf s class)) = rw length-map in-rows in
-      drop-cons (map numberOf (rowsOf s class)) i (numberOf []) in-numbers
-      ∙ ap (λ (n : ℕ). n ∷ drop (suc i) (map numberOf (rowsOf s class)))
-      (List·getD-map numberOf (rowsOf s class) i [] ∙ ap numberOf (row-bytes s sized class i below) ∙ rw (at .begins))
-
-  pub passes : i < rows → refusalAt s class (first + i) ≡ 0 → InClass s class first rows (i + 1)
-  unfolding firstRefusal
-  passes more clean =
+  pub enters : (class row rows : ℕ) → AtClass s class row → class ≤ 4 → rows ≡ countIn (countsOf s) class → InClass s class (row + rows) row
+  enters class row rows at high count =
       record {
         low = at .low;
-        high = at .high;
-        begins = at .begins;
-        counts = at .counts;
-        within = at .within;
-        passed = omega arith;
-        found = at .found ∙ rw (ahead more, eq-eqb _ _ clean, add-one i, add-suc first i);
+        high = high;
+        ends = omega (arith, at .begins, before-next (countsOf s) class);
+        within = omega (arith, at .begins, before-within (countsOf s) class);
+        from = omega (arith, at .begins);
+        to = omega arith;
       }
 
-  pub leaves : i < rows → (refusalAt s class (first + i) ≡ 0 → ⊥) → rowsRefusal s ≡ refused (refusalAt s class (first + i)) (first + i)
-  unfolding firstRefusal
-  leaves more bad = at .found ∙ rw (ahead more, ne-eqb _ _ bad)
+  pub goes-on : (class end row : ℕ) → InClass s class end row → row < end → InClass s class end (row + 1)
+  goes-on class end row at more =
+      record { low = at .low; high = at .high; ends = at .ends; within = at .within; from = omega (arith, at .from); to = omega arith }
 
-  pub next-class : rows ≤ i → AtClass s (class + 1) (first + rows)
-  unfolding classRefusals
-  next-class done =
-      let all : length (map numberOf (rowsOf s class)) ≤ i = rw length-map (omega (arith, class-count s sized class, at .counts)) in
-      let last : i ≡ rows = omega (arith, at .passed) in
+  pub next-class : (class end row : ℕ) → InClass s class end row → end ≤ row → AtClass s (class + 1) row
+  next-class class end row at done =
       record {
         low = omega arith;
         high = omega (arith, at .high);
-        begins = omega (arith, at .begins, at .counts, before-next (countsOf s) class);
-        found = at .found ∙ rw (drop-of-length-le (classRefusals s class) all, last);
+        begins = omega (arith, at .ends, at .to);
+        within = omega (arith, at .within, at .to);
       }
 
--- after the last class no row is refused
-pub all-passed : (s : List ℕ) (class first : ℕ) → AtClass s class first → 4 < class → rowsRefusal s ≡ refused 0 0
-unfolding firstRefusal from
-all-passed s class first at past =
-    let five : class ≡ 5 = omega (arith, at .high) in
-    at .found ∙ rw five
+  pub at-end : (class row : ℕ) → AtClass s class row → 4 < class → rowCount (countsOf s) ≡ row
+  at-end class row at past = omega (arith, at .begins, before-all (countsOf s) class past)
+
+  -- the leg where one stands
+  pub record Stands (class row : ℕ) : Type 0 where
+    pub within : row < length (legsOf s)
+    pub is-leg : getD (legsOf s) row (legOf class []) ≡ legOf class (bytesAt s row)
+
+  pub leg-there : length s ≡ contentsSize + rowSize * rowCount (countsOf s) → (class end row : ℕ) → InClass s class end row → row < end → Stands class row
+  leg-there sized class end row at more =
+      record {
+        within = omega (arith, at .within, legs-length s sized);
+        is-leg = leg-at s sized class row (at .low) (at .high) (at .from) (omega (arith, at .ends));
+      }
+
+-- ---- leg by leg: the refusal of all legs is that of the legs from number n on
+pub record Passed (legs : List Leg) (n : ℕ) : Type 0 where
+  pub found : firstRefusal 0 legs ≡ firstRefusal n (drop n legs)
+
+pub none-passed : (legs : List Leg) → Passed legs 0
+none-passed legs = record { found = refl }
+
+module _ (legs : List Leg) (n : ℕ) (leg none : Leg) (within : n < length legs) (is-leg : getD legs n none ≡ leg) (passed : Passed legs n) where
+  ahead : drop n legs ≡ leg ∷ drop (suc n) legs
+  ahead = drop-cons legs n none within ∙ ap (λ (l : Leg). l ∷ drop (suc n) legs) is-leg
+
+  pub passes : rowRefusal (leg .class) (leg .row) ≡ 0 → Passed legs (n + 1)
+  unfolding firstRefusal
+  passes clean = record { found = passed .found ∙ rw (ahead, eq-eqb _ _ clean, add-one n) }
+
+  pub leaves : (rowRefusal (leg .class) (leg .row) ≡ 0 → ⊥) → firstRefusal 0 legs ≡ refused (rowRefusal (leg .class) (leg .row)) n
+  unfolding firstRefusal
+  leaves bad = passed .found ∙ rw (ahead, ne-eqb _ _ bad)
+
+pub all-passed : (legs : List Leg) (n : ℕ) → length legs ≤ n → Passed legs n → firstRefusal 0 legs ≡ refused 0 0
+unfolding firstRefusal
+all-passed legs n past passed = passed .found ∙ rw (drop-of-length-le legs past)

@@ -2,16 +2,13 @@
 use Prim.Native.Nat.{ℕ, _+_, _*_, _≤_, _<_}
 use mathlib.Core.Path.{_≡_}
 use mathlib.Core.Logic.{_⊎_}
-use mathlib.Core.List.{List, [], _∷_}
+use mathlib.Core.List.{List}
 use lib.ListN.{length}
-use Rattle.book.specs.Counts.{contentsSize, rowSize, classes, countsOf, rowCount}
-use Rattle.book.specs.Rows.{Row, rowsOf, decode}
+use Rattle.sums.specs.Every.{Every}
+use Rattle.book.specs.Counts.{contentsSize, rowSize, countsOf, rowCount}
+use Rattle.book.specs.Rows.{Row}
+use Rattle.book.specs.Legs.{legsOf}
 use Rattle.book.specs.Refusals.{mostRows, lastGroup, mostAmount, leastKind, mostKind, mostDays, mostCoupon}
-
--- each element of a list has a property
-pub data Every {A : Type 0} (P : A → Type 0) : List A → Type 0 where
-  none : Every P []
-  also : {a : A} {rest : List A} → P a → Every P rest → Every P (a ∷ rest)
 
 -- a row that its class allows (document 01, The book file)
 pub record Clean (class : ℕ) (row : Row) : Type 0 where
@@ -29,4 +26,4 @@ pub record Accepted (s : List ℕ) : Type 0 where
   pub contents : contentsSize ≤ length s
   pub few : rowCount (countsOf s) ≤ mostRows
   pub sized : length s ≡ contentsSize + rowSize * rowCount (countsOf s)
-  pub clean : Every (λ class. Every (λ bytes. Clean class (decode bytes)) (rowsOf s class)) classes
+  pub clean : Every (λ leg. Clean (leg .class) (leg .row)) (legsOf s)

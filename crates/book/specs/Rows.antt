@@ -31,7 +31,3 @@ decode bytes =
       long = u32At bytes 8;
       short = u32At bytes 12;
     }
-
--- row i of a body; past the last row every field is zero (document 01, The book file)
-unfoldable pub rowOf : List ℕ → ℕ → Row
-rowOf body i = decode (getD (rowsIn body) i [])

@@ -3,47 +3,35 @@ use crate::CONTENTS_SIZE;
 use crate::Counts;
 use crate::ROW_SIZE;
 use crate::Refusal;
-use crate::fields;
 use crate::limits;
+use crate::refused;
+use crate::rows;
 ghost use mathlib.Core.Path.{_≡_};
-ghost use Prim.Native.Nat.{_+_, _*_, _≤_};
-ghost use lib.ListN.{length};
-ghost use Rattle.book.specs.Counts.{contentsSize, rowSize, countsOf, rowCount};
-ghost use Rattle.book.specs.Refusals.{mostRows, rowsRefusal};
+ghost use Rattle.book.specs.Counts.{countsOf};
+ghost use Rattle.book.specs.Legs.{legsOf};
+ghost use Rattle.book.specs.Refusals.{firstRefusal};
+ghost use Rattle.book.specs.Inner.Reading.{Sized};
 
 // The refusal of the first bad row: the search over the classes and their rows leaves with it and with the row.
 pub fn first_refused(book: &[u8], counts: Counts) -> Refusal
-    requires { ⌜ (counts ≡ countsOf (now book)) × (rowCount (countsOf (now book)) ≤ mostRows) × (length (now book) ≡ contentsSize + rowSize * rowCount (countsOf (now book))) ⌝ }
-    ensures { λ r. ⌜ r ≡ rowsRefusal (now (book .entry)) ⌝ }
+    requires { ⌜ (counts ≡ countsOf (now book)) × Sized (now book) ⌝ }
+    ensures { λ r. ⌜ r ≡ firstRefusal 0 (legsOf (now (book .entry))) ⌝ }
 {
     let mut class: usize = 1;
-    let mut first: usize = 0;
+    let mut row: usize = 0;
     'search: loop {
         if 4 < class {
-            break 'search Refusal {
-                number: 0,
-                row: 0,
-                book: 0,
-            };
+            break 'search refused(0, 0);
         }
-        let rows = counts.class_rows(class) as usize;
-        let mut i: usize = 0;
-        while i < rows {
-            let row = first + i;
-            let number = limits::row_refusal(
-                class,
-                fields::row_from(book, CONTENTS_SIZE + ROW_SIZE * row),
-            );
+        let end = row + (counts.class_rows(class) as usize);
+        while row < end {
+            let leg = rows::row_from(book, CONTENTS_SIZE + ROW_SIZE * row);
+            let number = limits::row_refusal(class, leg);
             if number != 0 {
-                break 'search Refusal {
-                    number,
-                    row: row as u16,
-                    book: 0,
-                };
+                break 'search refused(number, row as u16);
             }
-            i += 1;
+            row += 1;
         }
-        first += rows;
         class += 1;
     }
 }

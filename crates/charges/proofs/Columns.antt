@@ -11,7 +11,8 @@ use lib.ListN.{length, take, getD}
 use lib.Seq.{take-suc}
 use lib.Dec.{ltb, leb}
 use borrow.Author.Tests.{ltb-false, lt-ltb, le-ltb, leb-true}
-use Rattle.charges.specs.Bands.{ascending, firstBand}
+use Rattle.charges.specs.Inner.Tables.{ascending}
+use Rattle.charges.specs.Bands.{firstBand}
 
 -- how many entries are below the days
 unfoldable pub below : ℕ → List ℕ → ℕ

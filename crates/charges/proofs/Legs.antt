@@ -2,37 +2,26 @@
 -- Assumes nothing.
 use mathlib.Core.Bool.{cond}
 use mathlib.Core.Logic.{⊎-elim}
-use mathlib.Core.List.{List, map}
-use Prim.Native.Nat.{ℕ, zero, suc, _+_, _*_, _≤_, _<_}
+use mathlib.Core.List.{List}
+use Prim.Native.Nat.{ℕ, _+_, _*_, _≤_}
 use native.Mathlib.Nat.{mul-le-mul-right}
 use native.Mathlib.Omega.{arith}
-use lib.ListN.{length, getD}
+use lib.ListN.{length}
 use lib.Dec.{leb, eqb}
 use Rattle.book.specs.declared.Row.{Row}
-use Rattle.book.specs.Rows.{decode}
 use Rattle.book.specs.Refusals.{mostRows, mostAmount}
-use Rattle.book.specs.Accepted.{Every, none, also, Clean}
-use Rattle.ladder.specs.Rows.{sumOf}
-use Rattle.ladder.proofs.Sums.{sumOf≤, sumOf-times}
+use Rattle.sums.specs.Every.{Every}
+use Rattle.book.specs.Accepted.{Clean}
+use Rattle.sums.specs.Sums.{sumOf}
+use Rattle.sums.proofs.Sums.{sumOf≤, sumOf-rate}
+use Rattle.sums.proofs.Every.{every-bound}
 use Rattle.charges.specs.Weights.{qualifyingWeight, interestWeight, equityWeight, specificWeight}
-use Rattle.charges.proofs.Columns.{either}
-use Rattle.charges.specs.Charges.{eightPerCent, amounts, specificOf}
+use Rattle.sums.proofs.Cases.{either}
+use Rattle.charges.specs.Charges.{eightPerCent, specificOf}
 
--- ---- every element of a list
-module _ {A : Type 0} {P : A → Type 0} where
-  pub every-at : {l : List A} → Every P l → (i : ℕ) (d : A) → i < length l → P (getD l i d)
-  every-at none i d h = let never : ⊥ = omega arith in absurd never
-  every-at (also p rest) zero d h = p
-  every-at (also p rest) (suc i) d h = every-at rest i d (omega arith)
-
-  pub every-bound : (f : A → ℕ) (bound : ℕ) → ((a : A) → P a → f a ≤ bound) → {l : List A} → Every P l → sumOf f l ≤ bound * length l
-  unfolding sumOf
-  every-bound f bound each none = omega arith
-  every-bound f bound each (also {a} p rest) = omega (arith, each a p, every-bound f bound each rest)
-
-pub every-decoded : {P : Row → Type 0} {rows : List (List ℕ)} → Every (λ bytes. P (decode bytes)) rows → Every P (map decode rows)
-every-decoded none = none
-every-decoded (also p rest) = also p (every-decoded rest)
+-- the amounts of some rows together
+unfoldable pub amounts : List Row → ℕ
+amounts rows = sumOf (λ row. row .long + row .short) rows
 
 -- a clean row has its amount on one side
 amount-within : (class : ℕ) (row : Row) → Clean class row → row .long + row .short ≤ mostAmount
@@ -61,12 +50,8 @@ weight-within class row =
 pub specific-within : (class : ℕ) (rows : List Row) → sumOf (specificOf class) rows ≤ eightPerCent * amounts rows
 unfolding specificOf amounts
 specific-within class rows =
-    omega (
-      arith,
-      sumOf≤ (specificOf class) (λ row. eightPerCent * (row .long + row .short)) rows
-          (λ row m. omega (arith, mul-le-mul-right (row .long + row .short) (weight-within class row))),
-      sumOf-times eightPerCent (λ (row : Row). row .long + row .short) rows,
-    )
+    sumOf-rate eightPerCent (specificOf class) (λ row. row .long + row .short) rows
+    (λ row. omega (arith, mul-le-mul-right (row .long + row .short) (weight-within class row)))
 
 -- what each sum of at most 4,000 clean rows may come to
 pub record Bounded (class : ℕ) (rows : List Row) : Type 0 where

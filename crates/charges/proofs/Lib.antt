@@ -2,8 +2,6 @@
 pub mod Columns
 pub mod Legs
 pub mod Tallying
-pub mod Filling
-pub mod Summing
 pub mod Slots
 pub mod Rates
 pub mod Costs

@@ -10,16 +10,18 @@ use native.Mathlib.Omega.{arith}
 use lib.ListN.{length, getD, replicate}
 use lib.Dec.{ltb, eqb}
 use Rattle.book.specs.declared.Row.{Row}
-use Rattle.ladder.specs.Rows.{only, sumOf, sumAt, tally}
-use Rattle.ladder.specs.Books.{inGroup, ladderOf, groupsOf}
-use Rattle.ladder.proofs.Matching.{same-sides}
-use Rattle.ladder.proofs.Tables.{tallied}
+use Rattle.ladder.specs.Rows.{inGroup, ladderOf, groupsOf}
+use Rattle.sums.specs.Sums.{sumOf, sumAt}
+use Rattle.sums.specs.Inner.Tables.{tally, Reads}
+use Rattle.ladder.specs.Inner.Steps.{bands}
+use Rattle.ladder.proofs.Matching.{same-position}
+use Rattle.sums.proofs.Tables.{tallied}
 use Rattle.ladder.proofs.Agreeing.{Agree}
 use borrow.Author.Tests.{eq-eqb, ne-eqb}
 use Rattle.charges.specs.Bands.{firstBand, highColumn, lowColumn, commodityColumn, interestBand, commodityBand, bandIn}
 use Rattle.charges.specs.Charges.{reading}
-use Rattle.charges.proofs.Columns.{either}
-use Rattle.charges.specs.Tables.{SumsOf, slotIn, tableBands, tableGroups}
+use Rattle.sums.proofs.Cases.{either}
+use Rattle.charges.specs.Inner.Tables.{SumsOf, slotIn, tableBands, tableGroups}
 
 -- ---- a class has at most fifteen bands
 first-within : (days : ℕ) (column : List ℕ) → firstBand days column ≤ length column
@@ -43,10 +45,10 @@ pub band-below : (class : ℕ) (row : Row) → bandIn class row < 15
 band-below class row = omega (arith, band-most class row)
 
 -- ---- a slot is of one group and one band
-one-slot : (group band g k x : ℕ) → band < 15 → k < 15 → only (eqb (15 * group + band) (15 * g + k)) x ≡ only (eqb band k) (only (eqb group g) x)
+one-slot : (group band g k x : ℕ) → band < 15 → k < 15 → cond (eqb (15 * group + band) (15 * g + k)) x 0 ≡ cond (eqb band k) (cond (eqb group g) x 0) 0
 one-slot group band g k x h h′ = go (ℕ-discrete group g) (ℕ-discrete band k)
   where
-    go : Dec (group ≡ g) → Dec (band ≡ k) → only (eqb (15 * group + band) (15 * g + k)) x ≡ only (eqb band k) (only (eqb group g) x)
+    go : Dec (group ≡ g) → Dec (band ≡ k) → cond (eqb (15 * group + band) (15 * g + k)) x 0 ≡ cond (eqb band k) (cond (eqb group g) x 0) 0
     go (yes p) (yes q) = simp (eq-eqb group g p, eq-eqb band k q, eq-eqb (15 * group + band) (15 * g + k) (omega arith))
     go (yes p) (no q) = simp (ne-eqb band k q, ne-eqb (15 * group + band) (15 * g + k) (λ e. q (omega arith)))
     go (no p) (yes q) = simp (eq-eqb band k q, ne-eqb group g p, ne-eqb (15 * group + band) (15 * g + k) (λ e. p (omega arith)))
@@ -72,15 +74,19 @@ module _ (class : ℕ) (rows : List Row) where
     pub bands-agree : (g : ℕ) → g < 32 → Agree 15 (tableBands longs shorts g) (ladderOf (reading class) g rows)
     bands-agree g h =
         record {
-          below = λ k h′. same-sides (rw (of .is-longs) (slot-sum (λ row. row .long) g k h h′)) (rw (of .is-shorts) (slot-sum (λ row. row .short) g k h h′));
+          below = λ k h′. same-position (rw (of .is-longs) (slot-sum (λ row. row .long) g k h h′)) (rw (of .is-shorts) (slot-sum (λ row. row .short) g k h h′));
         }
 
     -- without bands a group has one slot
     pub groups-agree : ((row : Row) → bandIn class row ≡ 0) → Agree 32 (tableGroups longs shorts) (groupsOf (reading class) rows)
     groups-agree flat =
         record {
-          below = λ g h. same-sides (rw (of .is-longs) (group-sum flat (λ row. row .long) g h)) (rw (of .is-shorts) (group-sum flat (λ row. row .short) g h));
+          below = λ g h. same-position (rw (of .is-longs) (group-sum flat (λ row. row .long) g h)) (rw (of .is-shorts) (group-sum flat (λ row. row .short) g h));
         }
+
+-- two arrays that were read out of tables
+pub arrays-agree : (n : ℕ) (f g : ℕ → ℕ) (longs shorts : List ℕ) → Reads n f longs → Reads n g shorts → Agree n (bands longs shorts) (λ k. record { long = f k; short = g k })
+arrays-agree n f g longs shorts l s = record { below = λ k h. same-position (l .below k h) (s .below k h) }
 
 -- the classes without bands
 pub equity-flat : (row : Row) → bandIn 2 row ≡ 0

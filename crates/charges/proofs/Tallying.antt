@@ -8,12 +8,14 @@ use native.Mathlib.Omega.{arith}
 use lib.ListN.{length, take, drop, getD, set, replicate, List·getD-map}
 use lib.Seq.{take-suc, split-at, take-all}
 use Rattle.book.specs.declared.Row.{Row}
-use Rattle.book.specs.Rows.{rowsIn, rowOf, decode}
-use Rattle.ladder.specs.Rows.{sumOf, tally, placed}
-use Rattle.ladder.proofs.Sums.{sumOf-append}
-use Rattle.ladder.proofs.Tables.{tally-last, tally-room}
+use Rattle.book.specs.Rows.{rowsIn, decode}
+use Rattle.book.specs.Inner.Reading.{rowOf}
+use Rattle.sums.specs.Sums.{sumOf}
+use Rattle.sums.specs.Inner.Tables.{tally, placed}
+use Rattle.sums.proofs.Sums.{sumOf-append}
+use Rattle.sums.proofs.Tables.{tally-last, tally-room}
 use Rattle.charges.specs.Charges.{specificOf}
-use Rattle.charges.specs.Tables.{SumsOf, slotIn}
+use Rattle.charges.specs.Inner.Tables.{SumsOf, slotIn}
 
 -- the rows of a part, by number
 pub leg-at : (part : List ℕ) (i : ℕ) → getD (map decode (rowsIn part)) i (decode []) ≡ rowOf part i

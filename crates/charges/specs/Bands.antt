@@ -1,21 +1,14 @@
 -- The bands of a row, by its days and, in interest, its coupon (document 01, Interest: bands and zones; The commodities ladder).
 use Prim.Native.Nat.{ℕ, suc}
-use mathlib.Core.Bool.{Bool, true, cond, _&&_}
+use mathlib.Core.Bool.{cond}
 use mathlib.Core.List.{List, [], _∷_}
-use lib.Dec.{ltb, leb, eqb}
-use lib.ListN.{getD}
+use lib.Dec.{ltb, eqb}
 use Rattle.book.specs.declared.Row.{Row}
 
 -- the first band whose last day is not below the days; past all last days, the band after them (document 01, Interest: bands and zones)
 unfoldable pub firstBand : ℕ → List ℕ → ℕ
 firstBand days [] = 0
 firstBand days (last ∷ column) = cond (ltb last days) (suc (firstBand days column)) 0
-
--- each entry of a column is at most the next
-unfoldable pub ascending : List ℕ → Bool
-ascending [] = true
-ascending (last ∷ []) = true
-ascending (last ∷ (next ∷ column)) = leb last next && ascending (next ∷ column)
 
 -- the last days of the bands at a coupon of 300 or more; band 12 is over 7200 (document 01, Interest: bands and zones)
 abbrev pub highColumn : List ℕ
@@ -28,13 +21,6 @@ lowColumn = 30 ∷ 90 ∷ 180 ∷ 360 ∷ 684 ∷ 1008 ∷ 1296 ∷ 1548 ∷ 205
 -- the band of an interest row (document 01, Interest: bands and zones)
 unfoldable pub interestBand : Row → ℕ
 interestBand row = cond (ltb (row .coupon) 300) (firstBand (row .days) lowColumn) (firstBand (row .days) highColumn)
-
--- the weights of the bands in basis points (document 01, Interest: bands and zones)
-abbrev pub weights : List ℕ
-weights = 0 ∷ 20 ∷ 40 ∷ 70 ∷ 125 ∷ 175 ∷ 225 ∷ 275 ∷ 325 ∷ 375 ∷ 450 ∷ 525 ∷ 600 ∷ 800 ∷ 1250 ∷ []
-
-unfoldable pub weightOf : ℕ → ℕ
-weightOf band = getD weights band 0
 
 -- the last days of a commodity's bands; band 6 is over 1080 (document 01, The commodities ladder)
 abbrev pub commodityColumn : List ℕ

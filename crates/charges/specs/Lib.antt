@@ -2,5 +2,5 @@
 pub mod Bands
 pub mod Weights
 pub mod Charges
-pub mod Tables
 pub mod Report
+pub mod Inner

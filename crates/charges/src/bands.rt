@@ -1,13 +1,14 @@
 // The bands of rows: constant tables of weights and of last days, indexed by band.
-use crate::tables::BANDS;
 use book::Row;
+use ladder::BANDS;
 ghost use mathlib.Core.Path.{_≡_};
 ghost use mathlib.Core.Bool.{true};
 ghost use Prim.Native.Nat.{_<_, _≤_};
 ghost use lib.ListN.{length};
 ghost use Rattle.book.specs.Refusals.{lastGroup};
-ghost use Rattle.charges.specs.Tables.{slotIn};
-ghost use Rattle.charges.specs.Bands.{ascending, firstBand, interestBand, bandIn, weights};
+ghost use Rattle.ladder.specs.Inner.Steps.{bandCount};
+ghost use Rattle.charges.specs.Bands.{firstBand, interestBand, bandIn};
+ghost use Rattle.charges.specs.Inner.Tables.{ascending, slotCount, slotIn};
 
 // The last days of the bands at coupons of 300 basis points or more; the band after them is over 7200.
 const HIGH_COLUMN: [u16; 12] = [
@@ -82,7 +83,7 @@ fn first_band(column: &[u16], days: u16) -> usize
 }
 
 fn interest_band(row: Row) -> usize
-    ensures { λ r. ⌜ (r ≡ interestBand row) × (r < 15) ⌝ }
+    ensures { λ r. ⌜ (r ≡ interestBand row) × (r < bandCount) ⌝ }
 {
     if row.coupon < 300 {
         first_band(&LOW_COLUMN, row.days)
@@ -93,7 +94,7 @@ fn interest_band(row: Row) -> usize
 
 // The band of a row of a class, 0 in a class without bands.
 fn band_in(class: usize, row: Row) -> usize
-    ensures { λ r. ⌜ (r ≡ bandIn class row) × (r < 15) ⌝ }
+    ensures { λ r. ⌜ (r ≡ bandIn class row) × (r < bandCount) ⌝ }
 {
     match class {
         1 => interest_band(row),
@@ -105,7 +106,7 @@ fn band_in(class: usize, row: Row) -> usize
 // The slot of a row in the tables of sums: fifteen to a group, one a band.
 pub fn slot_in(class: usize, row: Row) -> usize
     requires { ⌜ row .group ≤ lastGroup ⌝ }
-    ensures { λ r. ⌜ (r ≡ slotIn class row) × (r < 480) ⌝ }
+    ensures { λ r. ⌜ (r ≡ slotIn class row) × (r < slotCount) ⌝ }
 {
     BANDS * (row.group as usize) + band_in(class, row)
 }

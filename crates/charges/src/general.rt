@@ -7,20 +7,21 @@ use ladder::InterestFigures;
 use ladder::Percents;
 ghost use mathlib.Core.Path.{_≡_};
 ghost use Prim.Native.Nat.{_*_, _<_, _≤_};
-ghost use Rattle.ladder.specs.Sides.{gross, total};
-ghost use Rattle.ladder.specs.Interest.{percents, interestFigures};
+ghost use Rattle.sums.specs.Sums.{sumOf};
+ghost use Rattle.ladder.specs.Position.{gross, total};
+ghost use Rattle.ladder.specs.Table.{standardTable};
+ghost use Rattle.ladder.specs.Interest.{interestFigures};
 ghost use Rattle.ladder.specs.Commodity.{commodityFigures};
-ghost use Rattle.ladder.specs.Nets.{groups, absoluteNets, shorthand};
-ghost use Rattle.ladder.specs.Rows.{sumOf};
-ghost use Rattle.charges.specs.Charges.{eightPerCent};
-ghost use Rattle.charges.specs.Tables.{mostGross, tableBands, tableGross, weightedBands, tableGroups};
+ghost use Rattle.ladder.specs.Nets.{absoluteNets, shorthand};
+ghost use Rattle.charges.specs.Charges.{eightPerCent, groups, currencies};
+ghost use Rattle.charges.specs.Inner.Tables.{groupCount, mostGross, tableBands, tableGross, weightedBands, tableGroups};
 
 // 8% of an amount unit, in mils.
 const EIGHT_PER_CENT: u64 = 80000;
 
 // The paper's per cents.
 fn percents() -> Percents
-    ensures { λ r. ⌜ r ≡ percents ⌝ }
+    ensures { λ r. ⌜ r ≡ standardTable .percents ⌝ }
 {
     Percents {
         vertical: 10,
@@ -38,8 +39,8 @@ pub fn interest_figures(
     shorts: &[u64; SLOTS],
     group: usize,
 ) -> InterestFigures
-    requires { ⌜ (group < 32) × (tableGross (now longs) (now shorts) group ≤ mostGross) ⌝ }
-    ensures { λ r. ⌜ r ≡ interestFigures percents (weightedBands (now (longs .entry)) (now (shorts .entry)) group) ⌝ }
+    requires { ⌜ (group < groupCount) × (tableGross (now longs) (now shorts) group ≤ mostGross) ⌝ }
+    ensures { λ r. ⌜ r ≡ interestFigures (standardTable .percents) (weightedBands standardTable (now (longs .entry)) (now (shorts .entry)) group) ⌝ }
 {
     let weighted_longs = tables::weighted_bands(longs, group);
     let weighted_shorts = tables::weighted_bands(shorts, group);
@@ -49,7 +50,7 @@ pub fn interest_figures(
 // The interest ladders of all currencies; one without amounts costs nothing and is passed over.
 pub fn interest_general(longs: &[u64; SLOTS], shorts: &[u64; SLOTS]) -> u64
     requires { ⌜ sumOf (tableGross (now longs) (now shorts)) groups ≤ mostGross ⌝ }
-    ensures { λ r. ⌜ r ≡ sumOf (λ group. interestFigures percents (weightedBands (now (longs .entry)) (now (shorts .entry)) group) .charge) groups ⌝ }
+    ensures { λ r. ⌜ r ≡ sumOf (λ group. interestFigures (standardTable .percents) (weightedBands standardTable (now (longs .entry)) (now (shorts .entry)) group) .charge) groups ⌝ }
 {
     let mut charge: u64 = 0;
     let mut currency: usize = 0;
@@ -68,7 +69,7 @@ pub fn commodity_figures(
     shorts: &[u64; SLOTS],
     group: usize,
 ) -> CommodityFigures
-    requires { ⌜ (group < 32) × (tableGross (now longs) (now shorts) group ≤ mostGross) ⌝ }
+    requires { ⌜ (group < groupCount) × (tableGross (now longs) (now shorts) group ≤ mostGross) ⌝ }
     ensures { λ r. ⌜ r ≡ commodityFigures (tableBands (now (longs .entry)) (now (shorts .entry)) group) ⌝ }
 {
     let commodity_longs = tables::commodity_bands(longs, group);
@@ -95,19 +96,19 @@ pub fn commodity_general(longs: &[u64; SLOTS], shorts: &[u64; SLOTS]) -> u64
 // 8% of the absolute nets of the markets.
 pub fn equity_general(longs: &[u64; SLOTS], shorts: &[u64; SLOTS]) -> u64
     requires { ⌜ gross (total (tableGroups (now longs) (now shorts)) groups) ≤ mostGross ⌝ }
-    ensures { λ r. ⌜ r ≡ eightPerCent * absoluteNets (tableGroups (now (longs .entry)) (now (shorts .entry))) ⌝ }
+    ensures { λ r. ⌜ r ≡ eightPerCent * absoluteNets groups (tableGroups (now (longs .entry)) (now (shorts .entry))) ⌝ }
 {
     let group_longs = tables::group_sums(longs);
     let group_shorts = tables::group_sums(shorts);
-    EIGHT_PER_CENT * ladder::absolute_nets(&group_longs, &group_shorts)
+    EIGHT_PER_CENT * ladder::absolute_nets(&group_longs, &group_shorts, GROUPS)
 }
 
 // 8% of the shorthand net of the currencies, with gold.
 pub fn exchange_general(longs: &[u64; SLOTS], shorts: &[u64; SLOTS]) -> u64
     requires { ⌜ gross (total (tableGroups (now longs) (now shorts)) groups) ≤ mostGross ⌝ }
-    ensures { λ r. ⌜ r ≡ eightPerCent * shorthand (tableGroups (now (longs .entry)) (now (shorts .entry))) ⌝ }
+    ensures { λ r. ⌜ r ≡ eightPerCent * shorthand currencies (tableGroups (now (longs .entry)) (now (shorts .entry))) ⌝ }
 {
     let group_longs = tables::group_sums(longs);
     let group_shorts = tables::group_sums(shorts);
-    EIGHT_PER_CENT * ladder::shorthand(&group_longs, &group_shorts)
+    EIGHT_PER_CENT * ladder::shorthand(&group_longs, &group_shorts, GROUPS - 1)
 }

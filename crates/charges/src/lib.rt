@@ -2,21 +2,21 @@
 mod bands;
 mod classes;
 mod general;
-mod sums;
+mod rows;
 mod tables;
 mod weights;
 
-use book::Contents;
-use book::Counts;
+use book::Checked;
+use book::LAST_GROUP;
 use book::Refusal;
 use ladder::CommodityFigures;
 use ladder::InterestFigures;
+use ladder::zones::Matches;
 ghost use mathlib.Core.Path.{_≡_};
 ghost use Prim.Native.Nat.{_+_, _≤_};
-ghost use Rattle.charges.specs.Report.{mostTotal, reportWith, refusedReport, reportOf, noInterest, noCommodity, ladderContents, interestLadderOf, commodityLadderOf};
-
-// Groups are 0 to 31.
-const LAST_GROUP: usize = 31;
+ghost use Rattle.ladder.specs.Table.{standardTable};
+ghost use Rattle.charges.specs.Report.{reportWith, refusedReport, reportOf, noInterest, noCommodity, interestLadderOf, commodityLadderOf};
+ghost use Rattle.charges.specs.Inner.Answers.{mostTotal, LadderRead};
 
 // The two parts of a class's charge.
 pub struct Risk {
@@ -48,17 +48,18 @@ pub struct CommodityLadder {
 
 // The report of a book: its six charges and their total, or why it is refused.
 pub fn charge(book: &[u8]) -> Report
-    ensures { λ r. ⌜ r ≡ reportOf (now (book .entry)) ⌝ }
+    ensures { λ r. ⌜ r ≡ reportOf standardTable (now (book .entry)) ⌝ }
 {
-    let contents = book::read(book);
-    let refusal = contents.refusal;
+    let checked = book::read(book);
+    let refusal = checked.refusal;
+    let counts = checked.counts;
     if refusal.number != 0 {
         return refused_report(refusal);
     }
-    let interest = classes::interest_risk(book::body(book, contents, 1));
-    let equity = classes::equity_risk(book::body(book, contents, 2));
-    let exchange = classes::exchange_charge(book::body(book, contents, 3));
-    let commodity = classes::commodity_charge(book::body(book, contents, 4));
+    let interest = classes::interest_risk(book::body(book, counts, 1));
+    let equity = classes::equity_risk(book::body(book, counts, 2));
+    let exchange = classes::exchange_charge(book::body(book, counts, 3));
+    let commodity = classes::commodity_charge(book::body(book, counts, 4));
     charged_report(interest, equity, exchange, commodity)
 }
 
@@ -73,11 +74,7 @@ fn charged_report(interest: Risk, equity: Risk, exchange: u64, commodity: u64) -
         + exchange
         + commodity;
     Report {
-        refusal: Refusal {
-            number: 0,
-            row: 0,
-            book: 0,
-        },
+        refusal: book::refused(0, 0),
         interest,
         equity,
         exchange,
@@ -105,10 +102,11 @@ fn refused_report(refusal: Refusal) -> Report
 
 // The interest ladder of a currency, or why there is none.
 pub fn interest_ladder(book: &[u8], group: usize) -> InterestLadder
-    ensures { λ r. ⌜ r ≡ interestLadderOf (now (book .entry)) group ⌝ }
+    ensures { λ r. ⌜ r ≡ interestLadderOf standardTable (now (book .entry)) group ⌝ }
 {
-    let contents = ladder_contents(book, group);
-    let refusal = contents.refusal;
+    let checked = ladder_checked(book, group);
+    let refusal = checked.refusal;
+    let counts = checked.counts;
     if refusal.number != 0 {
         return InterestLadder {
             refusal,
@@ -117,7 +115,7 @@ pub fn interest_ladder(book: &[u8], group: usize) -> InterestLadder
     }
     InterestLadder {
         refusal,
-        figures: classes::interest_figures(book::body(book, contents, 1), group),
+        figures: classes::interest_figures(book::body(book, counts, 1), group),
     }
 }
 
@@ -125,8 +123,9 @@ pub fn interest_ladder(book: &[u8], group: usize) -> InterestLadder
 pub fn commodity_ladder(book: &[u8], group: usize) -> CommodityLadder
     ensures { λ r. ⌜ r ≡ commodityLadderOf (now (book .entry)) group ⌝ }
 {
-    let contents = ladder_contents(book, group);
-    let refusal = contents.refusal;
+    let checked = ladder_checked(book, group);
+    let refusal = checked.refusal;
+    let counts = checked.counts;
     if refusal.number != 0 {
         return CommodityLadder {
             refusal,
@@ -135,28 +134,16 @@ pub fn commodity_ladder(book: &[u8], group: usize) -> CommodityLadder
     }
     CommodityLadder {
         refusal,
-        figures: classes::commodity_figures(book::body(book, contents, 4), group),
+        figures: classes::commodity_figures(book::body(book, counts, 4), group),
     }
 }
 
 // What a ladder call reads: a wrong group is refused with 10 before the book is looked at.
-fn ladder_contents(book: &[u8], group: usize) -> Contents
-    ensures { λ r. ⌜ r ≡ ladderContents (now (book .entry)) group ⌝ }
+fn ladder_checked(book: &[u8], group: usize) -> Checked
+    ensures { λ r. ⌜ LadderRead (now (book .entry)) group r ⌝ }
 {
-    if LAST_GROUP < group {
-        return Contents {
-            refusal: Refusal {
-                number: 10,
-                row: 0,
-                book: 0,
-            },
-            counts: Counts {
-                interest: 0,
-                equity: 0,
-                exchange: 0,
-                commodity: 0,
-            },
-        };
+    if (LAST_GROUP as usize) < group {
+        return book::checked_with(book::refused(10, 0), book::no_counts());
     }
     book::read(book)
 }
@@ -164,7 +151,7 @@ fn ladder_contents(book: &[u8], group: usize) -> Contents
 fn no_interest() -> InterestFigures
     ensures { λ r. ⌜ r ≡ noInterest ⌝ }
 {
-    InterestFigures {
+    let matches = Matches {
         gross: 0,
         vertical: 0,
         zone1: 0,
@@ -174,8 +161,8 @@ fn no_interest() -> InterestFigures
         zones23: 0,
         zones13: 0,
         residual: 0,
-        charge: 0,
-    }
+    };
+    InterestFigures { matches, charge: 0 }
 }
 
 fn no_commodity() -> CommodityFigures

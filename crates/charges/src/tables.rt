@@ -1,28 +1,28 @@
 // The tables of sums, and parts of them as the ladders take them.
 use crate::bands;
+use book::LAST_GROUP;
+use ladder::BANDS;
+use ladder::COMMODITY_BANDS;
 ghost use mathlib.Core.Path.{_≡_};
 ghost use Prim.Native.Nat.{ℕ, _+_, _*_, _<_, _≤_};
 ghost use lib.ListN.{getD};
-ghost use Rattle.ladder.specs.Sides.{limit};
-ghost use Rattle.charges.specs.Bands.{weightOf};
-ghost use Rattle.charges.specs.Tables.{Reads, tableGross, mostGross};
+ghost use Rattle.sums.specs.Inner.Tables.{Reads};
+ghost use Rattle.ladder.specs.Table.{standardTable, weightIn};
+ghost use Rattle.ladder.specs.Commodity.{commodityBandCount};
+ghost use Rattle.ladder.specs.Inner.Steps.{limit, bandCount};
+ghost use Rattle.charges.specs.Inner.Tables.{groupCount, tableGross, mostGross};
 
-// The groups of a class.
-pub const GROUPS: usize = 32;
-
-// The bands of a group: in interest, and in commodities.
-pub const BANDS: usize = 15;
-
-const COMMODITY_BANDS: usize = 7;
+// The groups of a class, 0 to the last.
+pub const GROUPS: usize = LAST_GROUP as usize + 1;
 
 // The slots of a table: for each group one for each band.
 pub const SLOTS: usize = GROUPS * BANDS;
 
 // The weighted sums of a currency's bands, on one side.
 pub fn weighted_bands(table: &[u64; SLOTS], group: usize) -> [u64; BANDS]
-    requires { ⌜ group < 32 ⌝ }
-    requires { ⌜ ((k : ℕ) → k < 15 → weightOf k * getD (now table) (15 * group + k) 0 ≤ limit) ⌝ }
-    ensures { λ r. ⌜ Reads 15 (λ k. weightOf k * getD (now (table .entry)) (15 * group + k) 0) r ⌝ }
+    requires { ⌜ group < groupCount ⌝ }
+    requires { ⌜ ((k : ℕ) → k < bandCount → weightIn standardTable k * getD (now table) (bandCount * group + k) 0 ≤ limit) ⌝ }
+    ensures { λ r. ⌜ Reads bandCount (λ k. weightIn standardTable k * getD (now (table .entry)) (bandCount * group + k) 0) r ⌝ }
 {
     let weights = bands::WEIGHTS;
     let mut out = [0u64; BANDS];
@@ -36,8 +36,8 @@ pub fn weighted_bands(table: &[u64; SLOTS], group: usize) -> [u64; BANDS]
 
 // The sums of a commodity's bands, on one side.
 pub fn commodity_bands(table: &[u64; SLOTS], group: usize) -> [u64; COMMODITY_BANDS]
-    requires { ⌜ group < 32 ⌝ }
-    ensures { λ r. ⌜ Reads 7 (λ k. getD (now (table .entry)) (15 * group + k) 0) r ⌝ }
+    requires { ⌜ group < groupCount ⌝ }
+    ensures { λ r. ⌜ Reads commodityBandCount (λ k. getD (now (table .entry)) (bandCount * group + k) 0) r ⌝ }
 {
     let mut out = [0u64; COMMODITY_BANDS];
     let mut k: usize = 0;
@@ -50,7 +50,7 @@ pub fn commodity_bands(table: &[u64; SLOTS], group: usize) -> [u64; COMMODITY_BA
 
 // The sums of the groups of a class without bands, on one side.
 pub fn group_sums(table: &[u64; SLOTS]) -> [u64; GROUPS]
-    ensures { λ r. ⌜ Reads 32 (λ group. getD (now (table .entry)) (15 * group) 0) r ⌝ }
+    ensures { λ r. ⌜ Reads groupCount (λ group. getD (now (table .entry)) (bandCount * group) 0) r ⌝ }
 {
     let mut out = [0u64; GROUPS];
     let mut group: usize = 0;
@@ -63,7 +63,7 @@ pub fn group_sums(table: &[u64; SLOTS]) -> [u64; GROUPS]
 
 // What a group's bands hold on both sides.
 pub fn group_gross(longs: &[u64; SLOTS], shorts: &[u64; SLOTS], group: usize) -> u64
-    requires { ⌜ (group < 32) × (tableGross (now longs) (now shorts) group ≤ mostGross) ⌝ }
+    requires { ⌜ (group < groupCount) × (tableGross (now longs) (now shorts) group ≤ mostGross) ⌝ }
     ensures { λ r. ⌜ r ≡ tableGross (now (longs .entry)) (now (shorts .entry)) group ⌝ }
 {
     let mut gross: u64 = 0;

@@ -1,46 +1,46 @@
--- The six charges of rows put together, permuted, and mirrored.
+-- The six charges of rows put together, permuted, and mirrored, for every accepted table.
 -- Assumes nothing.
 use Prim.Native.Nat.{ℕ, _+_, _*_, _≤_}
-use mathlib.Core.Path.{_≡_, refl, ap, _∙_, fun-ext}
+use mathlib.Core.Path.{_≡_, refl, ap, _∙_}
 use mathlib.Core.List.{List, _++_, map, Perm, List·Memᴰ}
 use native.Mathlib.Nat.{add-comm}
 use native.Mathlib.Omega.{arith}
+use Rattle.sums.proofs.Sums.{sumOf-append, sumOf-permuted, sumOf-map}
 use Rattle.book.specs.declared.Row.{Row}
-use Rattle.ladder.specs.Sides.{Bands}
-use Rattle.ladder.specs.Interest.{zones, percents, chargeOf}
+use Rattle.ladder.specs.Position.{Bands}
+use Rattle.ladder.specs.Table.{Table, AcceptedTable}
+use Rattle.ladder.specs.Interest.{interestFigures}
 use Rattle.ladder.specs.Commodity.{commodityFigures}
-use Rattle.ladder.specs.Nets.{groups, currencies, absoluteNets, shorthand}
-use Rattle.ladder.specs.Rows.{sumOf}
-use Rattle.ladder.specs.Books.{Exchanges, TwoZones, weighing, grouped}
-use Rattle.ladder.proofs.AddsUp.{percents-accepted}
+use Rattle.ladder.specs.Nets.{absoluteNets, shorthand}
+use Rattle.ladder.specs.Rows.{weighing, AtMostTwoZones}
 use Rattle.ladder.proofs.Netting.{absolutes-joined, absolutes-mirrored, shorthand-joined, shorthand-mirrored}
-use Rattle.ladder.proofs.Sums.{sumOf-append, sumOf-plus, sumOf-permuted, sumOf-map}
-use Rattle.ladder.proofs.Books.{general-joined, commodity-joined, nets-joined, grouped-permuted, groupsOf-permuted, general-mirrored, commodity-mirrored, nets-mirrored}
-use Rattle.charges.specs.Bands.{weightOf, interestBand, commodityBand, bandIn}
+use Rattle.ladder.proofs.Books.{Exchanges, general-joined, commodity-joined, nets-joined, grouped-permuted, groupsOf-permuted, general-mirrored, commodity-mirrored, nets-mirrored}
+use Rattle.charges.specs.Bands.{interestBand, commodityBand, bandIn}
 use Rattle.charges.specs.Weights.{interestWeight, equityWeight, specificWeight}
-use Rattle.charges.specs.Charges.{eightPerCent, reading, specificOf, specificIn, specificCharge, interestFiguresOf, commodityFiguresOf, interestGeneral, equityGeneral, exchangeGeneral, commodityGeneral, interestRisk, equityRisk}
+use Rattle.charges.specs.Charges.{eightPerCent, groups, currencies, reading, specificOf, specificCharge, interestFiguresOf, commodityFiguresOf}
+use Rattle.charges.specs.Charges.{interestGeneral, equityGeneral, exchangeGeneral, commodityGeneral, interestRisk, equityRisk}
 
 -- ---- put together
 module _ (rows more : List Row) where
   pub specific-joined : (class : ℕ) → specificCharge class (rows ++ more) ≡ specificCharge class rows + specificCharge class more
-  unfolding specificCharge specificIn
-  specific-joined class =
-      ap (λ (f : ℕ → ℕ). sumOf f groups) (fun-ext (λ g. sumOf-append _ rows more)) ∙ sumOf-plus _ _ groups
+  unfolding specificCharge
+  specific-joined class = sumOf-append (specificOf class) rows more
 
-  pub interest-joined : ((g : ℕ) → List·Memᴰ g groups → TwoZones (reading 1) zones g (rows ++ more)) → interestGeneral (rows ++ more) ≤ interestGeneral rows + interestGeneral more
-  unfolding interestGeneral interestFiguresOf grouped
-  interest-joined two = general-joined (reading 1) weightOf percents percents-accepted zones groups rows more two
+  pub interest-joined : (table : Table) → AcceptedTable table → ((g : ℕ) → List·Memᴰ g groups → AtMostTwoZones (reading 1) (rows ++ more) g)
+      → interestGeneral table (rows ++ more) ≤ interestGeneral table rows + interestGeneral table more
+  unfolding interestGeneral interestFiguresOf
+  interest-joined table ok two = general-joined (reading 1) table ok groups rows more two
 
   pub equity-joined : equityGeneral (rows ++ more) ≤ equityGeneral rows + equityGeneral more
   unfolding equityGeneral
-  equity-joined = omega (arith, nets-joined (reading 2) absoluteNets (absolutes-joined groups) rows more)
+  equity-joined = omega (arith, nets-joined (reading 2) (absoluteNets groups) (absolutes-joined groups) rows more)
 
   pub exchange-joined : exchangeGeneral (rows ++ more) ≤ exchangeGeneral rows + exchangeGeneral more
   unfolding exchangeGeneral
-  exchange-joined = omega (arith, nets-joined (reading 3) shorthand (shorthand-joined currencies) rows more)
+  exchange-joined = omega (arith, nets-joined (reading 3) (shorthand currencies) (shorthand-joined currencies) rows more)
 
   pub commodities-joined : commodityGeneral (rows ++ more) ≤ commodityGeneral rows + commodityGeneral more
-  unfolding commodityGeneral commodityFiguresOf grouped
+  unfolding commodityGeneral commodityFiguresOf
   commodities-joined = commodity-joined (reading 4) groups rows more
 
 -- ---- permuted, and mirrored
@@ -64,39 +64,39 @@ unfolding specificOf specificWeight interestWeight equityWeight
 specific-mirrored class row = rw (add-comm (row .short) (row .long))
 
 specific-invariant : (class : ℕ) → Invariant (specificCharge class)
-unfolding specificCharge specificIn
+unfolding specificCharge
 specific-invariant class =
     record {
-      permuted = λ p. ap (λ (f : ℕ → ℕ). sumOf f groups) (fun-ext (λ g. sumOf-permuted _ p));
-      mirrored = λ rows. ap (λ (f : ℕ → ℕ). sumOf f groups) (fun-ext (λ g. sumOf-map _ mirroredLeg rows ∙ simp (specific-mirrored class)));
+      permuted = sumOf-permuted (specificOf class);
+      mirrored = λ rows. sumOf-map (specificOf class) mirroredLeg rows ∙ simp (specific-mirrored class);
     }
 
-interest-invariant : Invariant interestGeneral
-unfolding interestGeneral interestFiguresOf grouped
-interest-invariant =
+interest-invariant : (table : Table) → Invariant (interestGeneral table)
+unfolding interestGeneral interestFiguresOf
+interest-invariant table =
     record {
-      permuted = grouped-permuted (weighing weightOf (reading 1)) (chargeOf percents zones) groups;
-      mirrored = general-mirrored (reading 1) weightOf percents zones groups mirroredLeg (mirrored-exchanges 1);
+      permuted = grouped-permuted (weighing table (reading 1)) (λ f. interestFigures (table .percents) f .charge) groups;
+      mirrored = general-mirrored (reading 1) table groups mirroredLeg (mirrored-exchanges 1);
     }
 
 equity-invariant : Invariant equityGeneral
 unfolding equityGeneral
 equity-invariant =
     record {
-      permuted = λ p. ap (λ (f : Bands). eightPerCent * absoluteNets f) (groupsOf-permuted (reading 2) p);
-      mirrored = λ rows. ap (λ (n : ℕ). eightPerCent * n) (nets-mirrored (reading 2) absoluteNets (absolutes-mirrored groups) mirroredLeg (mirrored-exchanges 2) rows);
+      permuted = λ p. ap (λ (f : Bands). eightPerCent * absoluteNets groups f) (groupsOf-permuted (reading 2) p);
+      mirrored = λ rows. ap (λ (n : ℕ). eightPerCent * n) (nets-mirrored (reading 2) (absoluteNets groups) (absolutes-mirrored groups) mirroredLeg (mirrored-exchanges 2) rows);
     }
 
 pub exchange-invariant : Invariant exchangeGeneral
 unfolding exchangeGeneral
 exchange-invariant =
     record {
-      permuted = λ p. ap (λ (f : Bands). eightPerCent * shorthand f) (groupsOf-permuted (reading 3) p);
-      mirrored = λ rows. ap (λ (n : ℕ). eightPerCent * n) (nets-mirrored (reading 3) shorthand (shorthand-mirrored currencies) mirroredLeg (mirrored-exchanges 3) rows);
+      permuted = λ p. ap (λ (f : Bands). eightPerCent * shorthand currencies f) (groupsOf-permuted (reading 3) p);
+      mirrored = λ rows. ap (λ (n : ℕ). eightPerCent * n) (nets-mirrored (reading 3) (shorthand currencies) (shorthand-mirrored currencies) mirroredLeg (mirrored-exchanges 3) rows);
     }
 
 pub commodity-invariant : Invariant commodityGeneral
-unfolding commodityGeneral commodityFiguresOf grouped
+unfolding commodityGeneral commodityFiguresOf
 commodity-invariant =
     record {
       permuted = grouped-permuted (reading 4) (λ f. (commodityFigures f) .charge) groups;
@@ -104,12 +104,12 @@ commodity-invariant =
     }
 
 -- both parts of a class's charge
-pub interest-risk-invariant : Invariant interestRisk
+pub interest-risk-invariant : (table : Table) → Invariant (interestRisk table)
 unfolding interestRisk
-interest-risk-invariant =
+interest-risk-invariant table =
     record {
-      permuted = λ p. rw (specific-invariant 1 .permuted p, interest-invariant .permuted p);
-      mirrored = λ rows. rw (specific-invariant 1 .mirrored rows, interest-invariant .mirrored rows);
+      permuted = λ p. rw (specific-invariant 1 .permuted p, interest-invariant table .permuted p);
+      mirrored = λ rows. rw (specific-invariant 1 .mirrored rows, interest-invariant table .mirrored rows);
     }
 
 pub equity-risk-invariant : Invariant equityRisk

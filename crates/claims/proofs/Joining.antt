@@ -2,34 +2,35 @@
 -- Assumes nothing.
 use Prim.Native.Nat.{ℕ, _+_, _≤_}
 use mathlib.Core.Path.{_≡_, ap, _∙_}
-use mathlib.Core.List.{List, _++_, map-append, List·Memᴰ}
+use mathlib.Core.List.{List, [], _∷_, _++_, map, map-append, List·Memᴰ}
 use native.Mathlib.Omega.{arith}
 use lib.ListN.{length}
+use Rattle.sums.specs.Every.{none, also}
+use Rattle.sums.proofs.Spans.{in-span}
 use Rattle.book.specs.Rows.{rowsOf, decode}
-use Rattle.book.specs.Refusals.{refused}
+use Rattle.book.specs.Refusals.{lastGroup, refused}
 use Rattle.book.specs.Accepted.{Accepted}
 use Rattle.book.specs.Parts.{accepts}
+use Rattle.book.proofs.Walking.{class-rows}
 use Rattle.book.proofs.Acceptance.{refused-with-none}
-use Rattle.ladder.specs.Interest.{zones}
-use Rattle.ladder.specs.Nets.{groups}
-use Rattle.ladder.specs.Books.{TwoZones}
-use Rattle.ladder.proofs.Sums.{in-span}
-use Rattle.charges.specs.Charges.{reading, specificCharge, interestGeneral, equityGeneral, interestRisk, equityRisk, exchangeGeneral, commodityGeneral}
-use Rattle.charges.specs.Report.{legsOf, reportWith, reportOf}
+use Rattle.ladder.specs.Table.{Table, AcceptedTable}
+use Rattle.ladder.specs.Rows.{AtMostTwoZones}
+use Rattle.charges.specs.Charges.{groups, reading, specificCharge, interestGeneral, equityGeneral, interestRisk, equityRisk, exchangeGeneral, commodityGeneral}
+use Rattle.charges.specs.Report.{classRows, reportWith, reportOf}
 use Rattle.join.specs.Joined.{joined}
 use Rattle.join.proofs.Settling.{Joins, joins}
 use Rattle.join.proofs.JoinedBook.{joined-rows, joined-accepted}
 use Rattle.join.proofs.Outcome.{written-book}
+use Rattle.market_risk.specs.Entries.{reportFigures}
 use Rattle.claims.specs.Zones.{TwoZonesEach}
-use Rattle.claims.specs.Demands.{AtMost, joinedBook, JoiningHolds}
-use Rattle.claims.proofs.Unused.{two-zones}
+use Rattle.claims.specs.Demands.{AtMost, no-figures, figure, joinedBook, JoiningHolds}
 use Rattle.claims.proofs.Charging.{specific-joined, interest-joined, equity-joined, exchange-joined, commodities-joined}
 
 -- the report of an accepted book
-pub accepted-report : (s : List ℕ) → Accepted s
-    → reportOf s ≡ reportWith (interestRisk (legsOf s 1)) (equityRisk (legsOf s 2)) (exchangeGeneral (legsOf s 3)) (commodityGeneral (legsOf s 4))
+pub accepted-report : (table : Table) (s : List ℕ) → Accepted s
+    → reportOf table s ≡ reportWith (interestRisk table (classRows s 1)) (equityRisk (classRows s 2)) (exchangeGeneral (classRows s 3)) (commodityGeneral (classRows s 4))
 unfolding reportOf accepts refused
-accepted-report s a = simp (refused-with-none s a)
+accepted-report table s a = simp (refused-with-none s a)
 
 -- the bytes that join writes are the joined book
 book-written : (a b out : List ℕ) → Joins a b (length out) → joinedBook a b out ≡ joined a b
@@ -37,46 +38,57 @@ unfolding joinedBook
 book-written a b out ok = written-book a b out ok
 
 -- the rows of the joined book, by their fields
-joined-legs : (a b out : List ℕ) → Joins a b (length out) → (class : ℕ) → legsOf (joinedBook a b out) class ≡ legsOf a class ++ legsOf b class
-unfolding legsOf
-joined-legs a b out ok class =
-    rw (book-written a b out ok, joined-rows a b (ok .first) (ok .second) class) (map-append decode (rowsOf a class) (rowsOf b class))
+joined-legs : (a b : List ℕ) → Accepted a → Accepted b → (class : ℕ) → 1 ≤ class → class ≤ 4
+    → classRows (joined a b) class ≡ classRows a class ++ classRows b class
+joined-legs a b of-a of-b class low high =
+    let fields : map decode (rowsOf (joined a b) class) ≡ map decode (rowsOf a class) ++ map decode (rowsOf b class) =
+    rw (joined-rows a b of-a of-b class) (map-append decode (rowsOf a class) (rowsOf b class)) in
+    rw (class-rows (joined a b) class low high, class-rows a class low high, class-rows b class low high) fields
 
--- two zones in each currency, as the ladders ask it
-two-in-each : (s : List ℕ) → TwoZonesEach s → (g : ℕ) → List·Memᴰ g groups → TwoZones (reading 1) zones g (legsOf s 1)
+-- six charges that are each at most two together, and so their totals
+six-at-most : {w1 w2 w3 w4 w5 w6 a1 a2 a3 a4 a5 a6 b1 b2 b3 b4 b5 b6 : ℕ}
+    → w1 ≤ a1 + b1 → w2 ≤ a2 + b2 → w3 ≤ a3 + b3 → w4 ≤ a4 + b4 → w5 ≤ a5 + b5 → w6 ≤ a6 + b6
+    → AtMost (w1 ∷ w2 ∷ w3 ∷ w4 ∷ w5 ∷ w6 ∷ (w1 + w2 + w3 + w4 + w5 + w6) ∷ [])
+    (a1 ∷ a2 ∷ a3 ∷ a4 ∷ a5 ∷ a6 ∷ (a1 + a2 + a3 + a4 + a5 + a6) ∷ []) (b1 ∷ b2 ∷ b3 ∷ b4 ∷ b5 ∷ b6 ∷ (b1 + b2 + b3 + b4 + b5 + b6) ∷ [])
+six-at-most {w1} {w2} {w3} {w4} {w5} {w6} {a1} {a2} {a3} {a4} {a5} {a6} {b1} {b2} {b3} {b4} {b5} {b6} h1 h2 h3 h4 h5 h6 =
+    let total : w1 + w2 + w3 + w4 + w5 + w6 ≤ (a1 + a2 + a3 + a4 + a5 + a6) + (b1 + b2 + b3 + b4 + b5 + b6) = omega arith in
+    figure h1 (figure h2 (figure h3 (figure h4 (figure h5 (figure h6 (figure total no-figures))))))
+
+-- two zones in each currency, as the law of joining asks it
+two-in-each : (s : List ℕ) → TwoZonesEach s → (g : ℕ) → List·Memᴰ g groups → AtMostTwoZones (reading 1) (classRows s 1) g
 unfolding TwoZonesEach
-two-in-each s two g member = two-zones s g (two g (omega (arith, in-span g 0 32 member)))
+two-in-each s two g member = two g (omega (arith, in-span g 0 (lastGroup + 1) member))
 
 -- the charges of a book whose rows are those of two
-no-dearer : (j a b : List ℕ) → Accepted j → Accepted a → Accepted b → ((class : ℕ) → legsOf j class ≡ legsOf a class ++ legsOf b class)
-    → TwoZonesEach j → AtMost (reportOf j) (reportOf a) (reportOf b)
-unfolding reportWith interestRisk equityRisk
-no-dearer j a b of-j of-a of-b legs two =
-    let specific1 : specificCharge 1 (legsOf j 1) ≡ specificCharge 1 (legsOf a 1) + specificCharge 1 (legsOf b 1) = ap (specificCharge 1) (legs 1) ∙ specific-joined _ _ 1 in
-    let specific2 : specificCharge 2 (legsOf j 2) ≡ specificCharge 2 (legsOf a 2) + specificCharge 2 (legsOf b 2) = ap (specificCharge 2) (legs 2) ∙ specific-joined _ _ 2 in
-    let interest : interestGeneral (legsOf j 1) ≤ interestGeneral (legsOf a 1) + interestGeneral (legsOf b 1) =
-    rw (legs 1) (interest-joined _ _ (λ g m. rw (legs 1) at (two-in-each j two g m))) in
-    let equity : equityGeneral (legsOf j 2) ≤ equityGeneral (legsOf a 2) + equityGeneral (legsOf b 2) = rw (legs 2) (equity-joined _ _) in
-    let exchange : exchangeGeneral (legsOf j 3) ≤ exchangeGeneral (legsOf a 3) + exchangeGeneral (legsOf b 3) = rw (legs 3) (exchange-joined _ _) in
-    let commodity : commodityGeneral (legsOf j 4) ≤ commodityGeneral (legsOf a 4) + commodityGeneral (legsOf b 4) = rw (legs 4) (commodities-joined _ _) in
-    rw (accepted-report j of-j, accepted-report a of-a, accepted-report b of-b)
-    (record {
-      interest-specific = omega arith;
-      interest-general = interest;
-      equity-specific = omega arith;
-      equity-general = equity;
-      exchange = exchange;
-      commodity = commodity;
-      total = omega arith;
-    })
+no-dearer : (table : Table) → AcceptedTable table → (j a b : List ℕ) → Accepted j → Accepted a → Accepted b
+    → ((class : ℕ) → 1 ≤ class → class ≤ 4 → classRows j class ≡ classRows a class ++ classRows b class)
+    → TwoZonesEach j → AtMost (reportFigures (reportOf table j)) (reportFigures (reportOf table a)) (reportFigures (reportOf table b))
+unfolding reportFigures reportWith interestRisk equityRisk
+no-dearer table ok j a b of-j of-a of-b legs two =
+    let rows1 = legs 1 (omega arith) (omega arith) in
+    let rows2 = legs 2 (omega arith) (omega arith) in
+    let rows3 = legs 3 (omega arith) (omega arith) in
+    let rows4 = legs 4 (omega arith) (omega arith) in
+    let specific1 : specificCharge 1 (classRows j 1) ≤ specificCharge 1 (classRows a 1) + specificCharge 1 (classRows b 1) =
+    omega (arith, ap (specificCharge 1) rows1 ∙ specific-joined (classRows a 1) (classRows b 1) 1) in
+    let specific2 : specificCharge 2 (classRows j 2) ≤ specificCharge 2 (classRows a 2) + specificCharge 2 (classRows b 2) =
+    omega (arith, ap (specificCharge 2) rows2 ∙ specific-joined (classRows a 2) (classRows b 2) 2) in
+    let interest : interestGeneral table (classRows j 1) ≤ interestGeneral table (classRows a 1) + interestGeneral table (classRows b 1) =
+    rw rows1 (interest-joined _ _ table ok (λ g m. rw rows1 at (two-in-each j two g m))) in
+    let equity : equityGeneral (classRows j 2) ≤ equityGeneral (classRows a 2) + equityGeneral (classRows b 2) = rw rows2 (equity-joined _ _) in
+    let exchange : exchangeGeneral (classRows j 3) ≤ exchangeGeneral (classRows a 3) + exchangeGeneral (classRows b 3) = rw rows3 (exchange-joined _ _) in
+    let commodity : commodityGeneral (classRows j 4) ≤ commodityGeneral (classRows a 4) + commodityGeneral (classRows b 4) = rw rows4 (commodities-joined _ _) in
+    rw (accepted-report table j of-j, accepted-report table a of-a, accepted-report table b of-b)
+    (six-at-most specific1 interest specific2 equity exchange commodity)
 
 pub joining : JoiningHolds
-joining a b out e =
-    let ok = joins a b (length out) e in
-    let whole = book-written a b out ok in
-    let accepted = joined-accepted a b (ok .first) (ok .second) (ok .few) in
+joining table ok a b out e =
+    let settled = joins a b (length out) e in
+    let whole = book-written a b out settled in
+    let accepted = joined-accepted a b (settled .first) (settled .second) (settled .few) in
+    let rows = joined-rows a b (settled .first) (settled .second) in
     record {
       accepted = rw whole (refused-with-none (joined a b) accepted);
-      rows = λ class low high. rw whole (joined-rows a b (ok .first) (ok .second) class);
-      no-dearer = no-dearer _ a b (rw whole accepted) (ok .first) (ok .second) (joined-legs a b out ok);
+      rows = rw whole (also (rows 1) (also (rows 2) (also (rows 3) (also (rows 4) none))));
+      no-dearer = rw whole (no-dearer table ok (joined a b) a b accepted (settled .first) (settled .second) (joined-legs a b (settled .first) (settled .second)));
     }

@@ -1,7 +1,8 @@
--- The demands, proved.
+-- The claims, proved.
+pub mod Reader
 pub mod Charging
-pub mod Unused
 pub mod Joining
 pub mod Mirroring
 pub mod Ordering
 pub mod WorkedBooks
+pub mod WorkedJoin

@@ -11,7 +11,8 @@ use Rattle.book.specs.declared.Row.{Row}
 use Rattle.book.specs.Fields.{u16At, u32At}
 use Rattle.book.specs.Counts.{rowSize, bodyOf}
 use Rattle.book.specs.Rows.{chunks, rowsIn, rowsOf, decode}
-use Rattle.book.specs.Accepted.{Every, none, also, Clean}
+use Rattle.sums.specs.Every.{Every, none, also}
+use Rattle.book.specs.Accepted.{Clean}
 use Rattle.claims.specs.Orders.{mirroredRow}
 use Rattle.claims.proofs.Charging.{mirroredLeg}
 

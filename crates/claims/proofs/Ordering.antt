@@ -1,66 +1,63 @@
 -- Demand 3, order and mirror: a book's rows in any order within their classes, mirrored all or none, are accepted and cost the same.
 -- Assumes nothing.
 use Prim.Native.Nat.{ℕ, _≤_}
-use mathlib.Core.Path.{_≡_, refl, sym, _∙_}
+use mathlib.Core.Path.{_≡_, refl, sym, ap, _∙_}
 use mathlib.Core.Logic.{inl, inr}
-use mathlib.Core.List.{List, [], _∷_, map, Perm, Perm·map}
+use mathlib.Core.List.{List, map, Perm, Perm·map, perm-iff-count, List-discrete}
+use native.Mathlib.Decide.{ℕ-discrete}
 use native.Mathlib.Omega.{arith}
 use lib.ListN.{length}
+use Rattle.sums.specs.Every.{Every, none, also}
+use Rattle.sums.proofs.Every.{every-implied, every-mapped, mapped-every, every-permuted}
 use Rattle.book.specs.declared.Row.{Row}
-use Rattle.book.specs.Counts.{countsOf}
+use Rattle.book.specs.Counts.{classes, countsOf}
 use Rattle.book.specs.Rows.{rowsOf, decode}
 use Rattle.book.specs.Refusals.{rowRefusal}
-use Rattle.book.specs.Accepted.{Every, none, also, Clean, Accepted}
+use Rattle.book.specs.Accepted.{Clean, Accepted}
+use Rattle.book.proofs.Placing.{of-four}
+use Rattle.book.proofs.Walking.{class-rows}
 use Rattle.book.proofs.Passing.{passes-clean, clean-passes}
-use Rattle.book.proofs.Acceptance.{every-implied, accepted, refused-with-none, class-clean}
-use Rattle.ladder.specs.Rows.{sumOf}
-use Rattle.ladder.proofs.Sums.{sumOf-permuted, reordered-permuted}
+use Rattle.book.proofs.Acceptance.{accepted, refused-with-none, class-clean, clean-legs}
+use Rattle.ladder.specs.Table.{Table}
 use Rattle.charges.specs.Charges.{interestRisk, equityRisk, exchangeGeneral, commodityGeneral}
-use Rattle.charges.specs.Report.{legsOf}
-use Rattle.charges.proofs.Legs.{every-decoded}
-use Rattle.claims.specs.Orders.{ReorderedBook, MirroredBook}
+use Rattle.charges.specs.Report.{classRows}
+use Rattle.claims.specs.Orders.{Reordered, Rearranged, ReorderedBook, MirroredBook}
 use Rattle.claims.specs.Demands.{Unchanged, OrderHolds}
 use Rattle.claims.proofs.Charging.{Invariant, mirroredLeg, interest-risk-invariant, equity-risk-invariant, exchange-invariant, commodity-invariant}
 use Rattle.claims.proofs.Joining.{accepted-report}
 use Rattle.claims.proofs.Mirroring.{rows-whole, mirrored-legs, mirrored-clean}
 
 -- ---- clean rows stay clean in any order
-module _ {A : Type 0} (f : A → ℕ) where
-  every-sum : {l : List A} → Every (λ a. f a ≡ 0) l → sumOf f l ≡ 0
-  unfolding sumOf
-  every-sum none = refl
-  every-sum (also p rest) = omega (arith, every-sum rest)
-
-  sum-every : (l : List A) → sumOf f l ≡ 0 → Every (λ a. f a ≡ 0) l
-  unfolding sumOf
-  sum-every [] e = none
-  sum-every (a ∷ l) e = let first : f a ≡ 0 = omega arith in also first (sum-every l (omega arith))
-
 clean-permuted : (class : ℕ) {rows rows′ : List Row} → Perm rows rows′ → Every (Clean class) rows → Every (Clean class) rows′
-clean-permuted class {rows} {rows′} p clean =
-    let none-refused = every-sum (rowRefusal class) (every-implied (clean-passes class) clean) in
-    every-implied (passes-clean class) (sum-every (rowRefusal class) rows′ (sym (sumOf-permuted (rowRefusal class) p) ∙ none-refused))
+clean-permuted class p clean =
+    every-implied (passes-clean class) (every-permuted (rowRefusal class) p (every-implied (clean-passes class) clean))
 
-clean-mirrored : (class : ℕ) {rows : List Row} → Every (Clean class) rows → Every (Clean class) (map mirroredLeg rows)
-clean-mirrored class none = none
-clean-mirrored class (also {a} p rest) = also (mirrored-clean class a p) (clean-mirrored class rest)
+-- rows of which each is there as often are permuted, and so are their fields
+pub fields-permuted : {rows rows′ : List (List ℕ)} → Reordered rows rows′ → Perm (map decode rows) (map decode rows′)
+fields-permuted {rows} {rows′} r = Perm·map decode {l₁ = rows} {l₂ = rows′} (perm-iff-count (List-discrete ℕ-discrete) .1 (r .each))
 
-decoded : (class : ℕ) (rows : List (List ℕ)) → Every (Clean class) (map decode rows) → Every (λ bytes. Clean class (decode bytes)) rows
-decoded class [] none = none
-decoded class (bytes ∷ rows) (also p rest) = also p (decoded class rows rest)
+-- the body of one class
+body-of : {c d : List ℕ} {rows : ℕ → List (List ℕ)} → Rearranged c d rows → (class : ℕ) → 1 ≤ class → class ≤ 4 → Reordered (rows class) (rowsOf d class)
+body-of {d} {rows} r = pick (r .bodies)
+  where
+    P : ℕ → Type 0
+    P class = Reordered (rows class) (rowsOf d class)
+
+    pick : Every P classes → (class : ℕ) → 1 ≤ class → class ≤ 4 → P class
+    pick (also one (also two (also three (also four none)))) = of-four P one two three four
 
 -- ---- a book d of c's size and counts, whose rows are in some order clean rows that cost what c's do
 record Ordered (c d : List ℕ) (legs : ℕ → List Row) : Type 1 where
   counts : countsOf d ≡ countsOf c
   size : length d ≡ length c
-  order : (class : ℕ) → 1 ≤ class → class ≤ 4 → Perm (legs class) (legsOf d class)
+  order : (class : ℕ) → 1 ≤ class → class ≤ 4 → Perm (legs class) (map decode (rowsOf d class))
   clean : (class : ℕ) → 1 ≤ class → class ≤ 4 → Every (Clean class) (legs class)
-  same : {A : Type 0} (cost : List Row → A) → Invariant cost → (class : ℕ) → cost (legs class) ≡ cost (legsOf c class)
+  same : {A : Type 0} (cost : List Row → A) → Invariant cost → (class : ℕ) → cost (legs class) ≡ cost (map decode (rowsOf c class))
 
 module _ (c d : List ℕ) (of-c : Accepted c) (legs : ℕ → List Row) (of : Ordered c d legs) where
   class-accepted : (class : ℕ) → 1 ≤ class → class ≤ 4 → Every (λ bytes. Clean class (decode bytes)) (rowsOf d class)
-  unfolding legsOf
-  class-accepted class low high = decoded class (rowsOf d class) (clean-permuted class (of .order class low high) (of .clean class low high))
+  class-accepted class low high =
+      every-mapped decode (λ bytes clean. clean) (rowsOf d class) (clean-permuted class (of .order class low high) (of .clean class low high))
 
   still-accepted : Accepted d
   still-accepted =
@@ -68,23 +65,24 @@ module _ (c d : List ℕ) (of-c : Accepted c) (legs : ℕ → List Row) (of : Or
         contents = omega (arith, of .size, of-c .contents);
         few = rw (of .counts) (of-c .few);
         sized = of .size ∙ rw (of .counts) (of-c .sized);
-        clean =
-            also (class-accepted 1 (omega arith) (omega arith))
-            (also (class-accepted 2 (omega arith) (omega arith))
-            (also (class-accepted 3 (omega arith) (omega arith)) (also (class-accepted 4 (omega arith) (omega arith)) none)));
+        clean = clean-legs d class-accepted;
       }
 
-  same-cost : {A : Type 0} (cost : List Row → A) → Invariant cost → (class : ℕ) → 1 ≤ class → class ≤ 4 → cost (legsOf d class) ≡ cost (legsOf c class)
-  same-cost cost invariant class low high = sym (invariant .permuted (of .order class low high)) ∙ of .same cost invariant class
+  same-cost : {A : Type 0} (cost : List Row → A) → Invariant cost → (class : ℕ) → 1 ≤ class → class ≤ 4 → cost (classRows d class) ≡ cost (classRows c class)
+  same-cost cost invariant class low high =
+      ap cost (class-rows d class low high)
+      ∙ sym (invariant .permuted (of .order class low high))
+      ∙ of .same cost invariant class
+      ∙ ap cost (sym (class-rows c class low high))
 
-  unchanged : Unchanged c d
-  unchanged =
+  unchanged : (table : Table) → Unchanged table c d
+  unchanged table =
       record {
         accepted = refused-with-none d still-accepted;
         report =
-            rw (accepted-report d still-accepted, accepted-report c of-c)
+            rw (accepted-report table d still-accepted, accepted-report table c of-c)
             (rw (
-              same-cost interestRisk interest-risk-invariant 1 (omega arith) (omega arith),
+              same-cost (interestRisk table) (interest-risk-invariant table) 1 (omega arith) (omega arith),
               same-cost equityRisk equity-risk-invariant 2 (omega arith) (omega arith),
               same-cost exchangeGeneral exchange-invariant 3 (omega arith) (omega arith),
               same-cost commodityGeneral commodity-invariant 4 (omega arith) (omega arith),
@@ -92,34 +90,31 @@ module _ (c d : List ℕ) (of-c : Accepted c) (legs : ℕ → List Row) (of : Or
       }
 
 -- ---- in any order, and mirrored in any order
-legs-clean : (c : List ℕ) → Accepted c → (class : ℕ) → 1 ≤ class → class ≤ 4 → Every (Clean class) (legsOf c class)
-unfolding legsOf
-legs-clean c of-c class low high = every-decoded (class-clean c of-c class low high)
+legs-clean : (c : List ℕ) → Accepted c → (class : ℕ) → 1 ≤ class → class ≤ 4 → Every (Clean class) (map decode (rowsOf c class))
+legs-clean c of-c class low high = mapped-every decode (λ bytes clean. clean) (class-clean c of-c class low high)
 
-pub reordered : (c d : List ℕ) → Accepted c → ReorderedBook c d → Unchanged c d
-unfolding ReorderedBook legsOf
-reordered c d of-c holds =
-    unchanged c d of-c (legsOf c)
-    (record {
-      counts = holds .counts;
-      size = holds .size;
-      order = λ class low high. Perm·map decode (reordered-permuted (holds .bodies class low high));
+reordered : (c d : List ℕ) → Accepted c → ReorderedBook c d → Ordered c d (λ class. map decode (rowsOf c class))
+unfolding ReorderedBook
+reordered c d of-c same =
+    record {
+      counts = same .counts;
+      size = same .size;
+      order = λ class low high. fields-permuted (body-of same class low high);
       clean = legs-clean c of-c;
       same = λ cost invariant class. refl;
-    })
+    }
 
-pub mirrored : (c d : List ℕ) → Accepted c → MirroredBook c d → Unchanged c d
-unfolding MirroredBook legsOf
-mirrored c d of-c holds =
-    unchanged c d of-c (λ class. map mirroredLeg (legsOf c class))
-    (record {
-      counts = holds .counts;
-      size = holds .size;
-      order = λ class low high. rw (mirrored-legs (rows-whole c class)) at (Perm·map decode (reordered-permuted (holds .bodies class low high)));
-      clean = λ class low high. clean-mirrored class (legs-clean c of-c class low high);
-      same = λ cost invariant class. invariant .mirrored (legsOf c class);
-    })
+mirrored : (c d : List ℕ) → Accepted c → MirroredBook c d → Ordered c d (λ class. map mirroredLeg (map decode (rowsOf c class)))
+unfolding MirroredBook
+mirrored c d of-c same =
+    record {
+      counts = same .counts;
+      size = same .size;
+      order = λ class low high. rw (mirrored-legs (rows-whole c class)) at (fields-permuted (body-of same class low high));
+      clean = λ class low high. mapped-every mirroredLeg (mirrored-clean class) (legs-clean c of-c class low high);
+      same = λ cost invariant class. invariant .mirrored (map decode (rowsOf c class));
+    }
 
 pub ordering : OrderHolds
-ordering c d e (inl order) = reordered c d (accepted c e) order
-ordering c d e (inr mirror) = mirrored c d (accepted c e) mirror
+ordering table c d e (inl order) = unchanged c d (accepted c e) _ (reordered c d (accepted c e) order) table
+ordering table c d e (inr mirror) = unchanged c d (accepted c e) _ (mirrored c d (accepted c e) mirror) table

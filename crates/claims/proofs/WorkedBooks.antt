@@ -1,26 +1,80 @@
--- E1 to E10: the definitions give document 01's figures, by computation.
+-- E1 to E10, and the facts that they leave open: the definitions give document 01's figures, by computation.
 -- Assumes nothing.
 use mathlib.Core.Path.{_≡_, refl}
-use mathlib.Core.List.{map, flatten, flatMap}
+use mathlib.Core.List.{List, map, flatMap}
+use Prim.Native.Nat.{ℕ}
+use Rattle.sums.specs.Sums.{sumOf, span}
 use Rattle.book.specs.Fields.{u16At, u32At}
 use Rattle.book.specs.Counts.{countsOf, countIn, rowsBefore, rowCount, bodyBy, bodyOf}
 use Rattle.book.specs.Rows.{chunks, rowsIn, rowsOf, decode}
-use Rattle.book.specs.Refusals.{leastKind, mostKind, mostDays, mostCoupon, rowRefusal, contentsRefusal, refused, classRefusals, firstRefusal, rowsRefusal, refusalOf}
+use Rattle.book.specs.Legs.{legsOf, ofClass}
+use Rattle.book.specs.Refusals.{leastKind, mostKind, mostDays, mostCoupon, groupRefusal, termsRefusal, amountsRefusal, orElse, rowRefusal, contentsRefusal, refused, firstRefusal, refusalOf}
 use Rattle.book.specs.Parts.{accepts}
-use Rattle.ladder.specs.Sides.{matched, rest, span, total, vertical}
+use Rattle.ladder.specs.Position.{matched, net, total, vertical}
+use Rattle.ladder.specs.Table.{weightIn}
 use Rattle.ladder.specs.Interest.{against, left, zones12, zones23, zones13, crossing, matches}
 use Rattle.ladder.specs.Commodity.{toBand, carry}
-use Rattle.ladder.specs.Rows.{sumOf}
-use Rattle.charges.specs.Bands.{firstBand, interestBand, commodityBand, bandIn, weightOf}
+use Rattle.layout.specs.Written.{written}
+use Rattle.layout.specs.Files.{twoBytes, fourBytes, rowBytes, contentsBytes, fileOf, legCounts, bookOf}
+use Rattle.charges.specs.Bands.{firstBand, interestBand, commodityBand, bandIn}
 use Rattle.charges.specs.Weights.{qualifyingWeight, interestWeight, equityWeight, specificWeight}
-use Rattle.charges.specs.Charges.{specificOf, specificIn, specificCharge, interestFiguresOf, commodityFiguresOf, interestGeneral, equityGeneral, exchangeGeneral, commodityGeneral, interestRisk, equityRisk}
-use Rattle.charges.specs.Report.{legsOf, reportWith, refusedReport, reportOf}
-use Rattle.join.specs.Written.{written}
-use Rattle.join.specs.Files.{countBytes, contentsBytes, fileOf}
+use Rattle.charges.specs.Charges.{specificOf, specificCharge, interestFiguresOf, commodityFiguresOf, interestGeneral, equityGeneral, exchangeGeneral, commodityGeneral, interestRisk, equityRisk}
+use Rattle.charges.specs.Report.{reportWith, refusedReport, reportOf, ladderRefusal, interestLadderOf, commodityLadderOf}
 use Rattle.join.specs.Joined.{addedCounts, joinedCounts, joinedBody, joined, inBook, settled, joinRefusal, joinedOf, joinOutput}
+use Rattle.market_risk.specs.Entries.{refusalEntries, reportFigures, reportEntries, interestEntries, commodityEntries, joinedEntries}
 use Rattle.claims.specs.Demands.{joinedBook}
-use Rattle.claims.specs.Worked.{file, worked}
+use Rattle.claims.specs.Worked.{Worked, worked}
+use Rattle.claims.specs.Facts.{tableFacts, costFacts, ladderFacts, refusalFacts, joinFacts}
 
-pub worked-books : map (λ w. w .given) worked ≡ map (λ w. w .expected) worked
-unfolding worked file joinedBook flatten flatMap u16At u32At countsOf countIn rowsBefore rowCount bodyBy bodyOf chunks rowsIn rowsOf decode leastKind mostKind mostDays mostCoupon rowRefusal contentsRefusal refused classRefusals firstRefusal rowsRefusal refusalOf accepts matched rest span total vertical against left zones12 zones23 zones13 crossing matches toBand carry sumOf firstBand interestBand commodityBand bandIn weightOf qualifyingWeight interestWeight equityWeight specificWeight specificOf specificIn specificCharge interestFiguresOf commodityFiguresOf interestGeneral equityGeneral exchangeGeneral commodityGeneral interestRisk equityRisk legsOf reportWith refusedReport reportOf written countBytes contentsBytes fileOf addedCounts joinedCounts joinedBody joined inBook settled joinRefusal joinedOf joinOutput
+-- what the definitions give: an unfolding is inherited, so each layer names its own and `given` unfolds with all of them
+unfoldable file : List Worked → List Worked
+unfolding sumOf span flatMap u16At u32At countsOf countIn rowsBefore rowCount bodyBy bodyOf chunks rowsIn rowsOf decode legsOf ofClass
+file facts = facts
+
+unfoldable refusals : List Worked → List Worked
+unfolding leastKind mostKind mostDays mostCoupon groupRefusal termsRefusal amountsRefusal orElse rowRefusal contentsRefusal refused firstRefusal refusalOf accepts
+refusals facts = facts
+
+unfoldable ladders : List Worked → List Worked
+unfolding matched net total vertical weightIn against left zones12 zones23 zones13 crossing matches toBand carry
+ladders facts = facts
+
+unfoldable writing : List Worked → List Worked
+unfolding written twoBytes fourBytes rowBytes contentsBytes fileOf legCounts bookOf addedCounts joinedCounts joinedBody joined inBook settled joinRefusal joinedOf joinOutput joinedBook
+writing facts = facts
+
+unfoldable charges : List Worked → List Worked
+unfolding firstBand interestBand commodityBand bandIn qualifyingWeight interestWeight equityWeight specificWeight specificOf specificCharge interestFiguresOf commodityFiguresOf interestGeneral equityGeneral exchangeGeneral commodityGeneral interestRisk equityRisk
+charges facts = facts
+
+unfoldable pub given : List Worked → List (List ℕ)
+unfolding file refusals ladders writing charges reportWith refusedReport reportOf ladderRefusal interestLadderOf commodityLadderOf refusalEntries reportFigures reportEntries interestEntries commodityEntries joinedEntries
+given facts = map (λ w. w .given) (file (refusals (ladders (writing (charges facts)))))
+
+pub expected : List Worked → List (List ℕ)
+unfolding span
+expected facts = map (λ w. w .expected) facts
+
+pub worked-books : given worked ≡ expected worked
+unfolding given expected worked
 worked-books = refl
+
+pub table-facts : given tableFacts ≡ expected tableFacts
+unfolding given expected tableFacts
+table-facts = refl
+
+pub cost-facts : given costFacts ≡ expected costFacts
+unfolding given expected costFacts
+cost-facts = refl
+
+pub ladder-facts : given ladderFacts ≡ expected ladderFacts
+unfolding given expected ladderFacts
+ladder-facts = refl
+
+pub refusal-facts : given refusalFacts ≡ expected refusalFacts
+unfolding given expected refusalFacts
+refusal-facts = refl
+
+pub join-facts : given joinFacts ≡ expected joinFacts
+unfolding given expected joinFacts
+join-facts = refl

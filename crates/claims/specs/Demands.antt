@@ -1,44 +1,63 @@
--- Demand 3, of the definitions that the calls' promises cite.
+-- What holds of the definitions that the calls' promises cite: the accepted books and their parts, and demand 3.
 use Prim.Native.Nat.{ℕ, _+_, _≤_}
 use mathlib.Core.Path.{_≡_}
 use mathlib.Core.Logic.{_⊎_}
-use mathlib.Core.List.{List, _++_}
+use mathlib.Core.List.{List, [], _∷_, _++_, flatMap}
 use lib.ListN.{length, take}
+use Rattle.sums.specs.Every.{Every}
+use Rattle.book.specs.Counts.{contentsSize, classes}
 use Rattle.book.specs.Rows.{rowsOf}
 use Rattle.book.specs.Refusals.{refused, refusalOf}
-use Rattle.charges.specs.declared.Report.{Report}
+use Rattle.book.specs.Accepted.{Accepted}
+use Rattle.book.specs.Parts.{partOf}
+use Rattle.ladder.specs.Table.{Table, AcceptedTable}
 use Rattle.charges.specs.Report.{reportOf}
 use Rattle.join.specs.Joined.{joinRefusal, joinedOf, joinOutput}
+use Rattle.market_risk.specs.Entries.{reportFigures}
 use Rattle.claims.specs.Zones.{TwoZonesEach}
 use Rattle.claims.specs.Orders.{ReorderedBook, MirroredBook}
 
--- each of the six charges and the total is at most those of two reports together
-pub record AtMost (whole a b : Report) : Type 0 where
-  pub interest-specific : whole .interest .specific ≤ a .interest .specific + b .interest .specific
-  pub interest-general : whole .interest .general ≤ a .interest .general + b .interest .general
-  pub equity-specific : whole .equity .specific ≤ a .equity .specific + b .equity .specific
-  pub equity-general : whole .equity .general ≤ a .equity .general + b .equity .general
-  pub exchange : whole .exchange ≤ a .exchange + b .exchange
-  pub commodity : whole .commodity ≤ a .commodity + b .commodity
-  pub total : whole .total ≤ a .total + b .total
+-- ---- the accepted books are those that are described directly (demand 2)
+pub record Accepting (s : List ℕ) : Type 0 where
+  pub described : refusalOf s .number ≡ 0 → Accepted s
+  pub taken : Accepted s → refusalOf s ≡ refused 0 0
+
+abbrev pub AcceptingHolds : Type 0
+AcceptingHolds = (s : List ℕ) → Accepting s
+
+-- ---- what each class is handed: of an accepted book the parts follow the contents and are the rest of the file; of a refused one each is empty
+pub record Handing (s : List ℕ) : Type 0 where
+  pub whole : refusalOf s .number ≡ 0 → take contentsSize s ++ flatMap (partOf s) classes ≡ s
+  pub empty : (refusalOf s .number ≡ 0 → ⊥) → Every (λ class. partOf s class ≡ []) classes
+
+abbrev pub HandingHolds : Type 0
+HandingHolds = (s : List ℕ) → Handing s
+
+-- ---- joining
+-- each figure is at most the two in its place together
+pub data AtMost : (whole a b : List ℕ) → Type 0 where
+  no-figures : AtMost [] [] []
+  figure : {w a b : ℕ} {more more-a more-b : List ℕ} → w ≤ a + b → AtMost more more-a more-b → AtMost (w ∷ more) (a ∷ more-a) (b ∷ more-b)
 
 -- the joined book: the bytes that join writes, up to the length that it gives (document 01, Joining)
 unfoldable pub joinedBook : List ℕ → List ℕ → List ℕ → List ℕ
 joinedBook a b out = take (joinedOf a b (length out) .length) (joinOutput a b out)
 
--- demand 3, joining, for every two books and every output that join accepts
-pub record Joining (a b out : List ℕ) : Type 0 where
+-- demand 3, joining, for every two books and every output that join accepts, and one accepted table for all three books
+pub record Joining (table : Table) (a b out : List ℕ) : Type 0 where
   pub accepted : refusalOf (joinedBook a b out) ≡ refused 0 0
-  pub rows : (class : ℕ) → 1 ≤ class → class ≤ 4 → rowsOf (joinedBook a b out) class ≡ rowsOf a class ++ rowsOf b class
-  pub no-dearer : TwoZonesEach (joinedBook a b out) → AtMost (reportOf (joinedBook a b out)) (reportOf a) (reportOf b)
+  pub rows : Every (λ class. rowsOf (joinedBook a b out) class ≡ rowsOf a class ++ rowsOf b class) classes
+  pub no-dearer : TwoZonesEach (joinedBook a b out)
+      → AtMost (reportFigures (reportOf table (joinedBook a b out))) (reportFigures (reportOf table a)) (reportFigures (reportOf table b))
 
 abbrev pub JoiningHolds : Type 0
-JoiningHolds = (a b out : List ℕ) → joinRefusal a b (length out) .number ≡ 0 → Joining a b out
+JoiningHolds = (table : Table) → AcceptedTable table → (a b out : List ℕ) → joinRefusal a b (length out) .number ≡ 0 → Joining table a b out
 
+-- ---- order and mirror
 -- demand 3, order and mirror, for every accepted book and every book that its rows make in any order, mirrored all or none
-pub record Unchanged (c d : List ℕ) : Type 0 where
+pub record Unchanged (table : Table) (c d : List ℕ) : Type 0 where
   pub accepted : refusalOf d ≡ refused 0 0
-  pub report : reportOf d ≡ reportOf c
+  pub report : reportOf table d ≡ reportOf table c
 
 abbrev pub OrderHolds : Type 0
-OrderHolds = (c d : List ℕ) → refusalOf c .number ≡ 0 → ReorderedBook c d ⊎ MirroredBook c d → Unchanged c d
+OrderHolds = (table : Table) (c d : List ℕ) → refusalOf c .number ≡ 0 → ReorderedBook c d ⊎ MirroredBook c d → Unchanged table c d

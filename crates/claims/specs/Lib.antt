@@ -1,5 +1,6 @@
--- What is claimed: joining, order and mirror; and the books worked by hand.
+-- What is claimed: the accepted books and their parts, joining, order and mirror; the books worked by hand, and facts of document 01.
 pub mod Zones
 pub mod Orders
 pub mod Demands
 pub mod Worked
+pub mod Facts

@@ -1,73 +1,60 @@
--- The books worked by hand, E1 to E10 of document 01, as bytes and figures. No book is in group 0, but for gold.
-use Prim.Native.Nat.{ℕ, _/_, _%_}
-use mathlib.Core.List.{List, [], _∷_, _++_, flatten}
-use lib.ListN.{length, replicate}
-use Rattle.book.specs.Rows.{decode}
-use Rattle.charges.specs.declared.Report.{Report}
+-- The books worked by hand, E1 to E10 of document 01, as legs and figures. No book is in group 0, but for gold.
+use Prim.Native.Nat.{ℕ, _≤_}
+use mathlib.Core.List.{List, [], _∷_, _++_}
+use lib.ListN.{replicate}
+use Rattle.book.specs.Legs.{Leg}
+use Rattle.ladder.specs.Table.{standardTable}
+use Rattle.layout.specs.Files.{twoBytes, bookOf}
 use Rattle.charges.specs.Bands.{interestBand}
 use Rattle.charges.specs.Report.{reportOf}
+use Rattle.market_risk.specs.Entries.{reportFigures, reportEntries}
 use Rattle.claims.specs.Demands.{joinedBook}
 
--- ---- books as bytes
--- two bytes and four bytes, low byte first
-abbrev pub two : ℕ → List ℕ
-two n = n % 256 ∷ n / 256 ∷ []
+-- ---- legs, their issue number 0
+abbrev pub leg : (class group kind days coupon long short : ℕ) → Leg
+leg class group kind days coupon long short =
+    record { class = class; row = record { group = group; kind = kind; days = days; coupon = coupon; issue = 0; long = long; short = short } }
 
-abbrev pub four : ℕ → List ℕ
-four n = two (n % 65536) ++ two (n / 65536)
+abbrev pub government : (group days long short : ℕ) → Leg
+government group days long short = leg 1 group 1 days 800 long short
 
--- a row's sixteen bytes, its issue number 0
-abbrev pub leg : (group kind days coupon long short : ℕ) → List ℕ
-leg group kind days coupon long short = group ∷ kind ∷ (two days ++ two coupon ++ two 0 ++ four long ++ four short)
+abbrev pub equity : (group kind long short : ℕ) → Leg
+equity group kind long short = leg 2 group kind 0 0 long short
 
--- a file of interest, equity, foreign exchange and commodity rows
-unfoldable pub file : (interest equity exchange commodity : List (List ℕ)) → List ℕ
-file interest equity exchange commodity =
-    two (length interest) ++ two (length equity) ++ two (length exchange) ++ two (length commodity)
-    ++ flatten interest ++ flatten equity ++ flatten exchange ++ flatten commodity
+abbrev pub currency : (group long short : ℕ) → Leg
+currency group long short = leg 3 group 0 0 0 long short
 
--- ---- what a report shows: number, row, the six charges, the total
-abbrev pub shown : Report → List ℕ
-shown r =
-    r .refusal .number ∷ r .refusal .row
-    ∷ r .interest .specific ∷ r .interest .general ∷ r .equity .specific ∷ r .equity .general ∷ r .exchange ∷ r .commodity ∷ r .total ∷ []
+abbrev pub commodity : (group days long short : ℕ) → Leg
+commodity group days long short = leg 4 group 0 days 0 long short
 
--- long and short rows of each class
-abbrev pub government : (group days long short : ℕ) → List ℕ
-government group days long short = leg group 1 days 800 long short
-
-abbrev pub currency : (group long short : ℕ) → List ℕ
-currency group long short = leg group 0 0 0 long short
-
-abbrev pub commodity : (group days long short : ℕ) → List ℕ
-commodity group days long short = leg group 0 days 0 long short
-
--- a book of one class
-abbrev pub interestBook : List (List ℕ) → List ℕ
-interestBook rows = file rows [] [] []
-
--- ---- the table: what the definitions give, and what document 01 says
+-- ---- a fact: what the definitions give, and what document 01 says
 pub record Worked : Type 0 where
   pub given : List ℕ
   pub expected : List ℕ
 
--- a charged book: specific and general interest, specific and general equity, foreign exchange, commodities
+-- a charged book: specific and general interest, specific and general equity, foreign exchange, commodities, and the total
 abbrev pub costs : List ℕ → (interest-specific interest-general equity-specific equity-general exchange commodity total : ℕ) → Worked
-costs book is ig es eg x c total = record { given = shown (reportOf book); expected = 0 ∷ 0 ∷ is ∷ ig ∷ es ∷ eg ∷ x ∷ c ∷ total ∷ [] }
+costs book is ig es eg x c total =
+    record { given = reportEntries (reportOf standardTable book); expected = 0 ∷ 0 ∷ 0 ∷ is ∷ ig ∷ es ∷ eg ∷ x ∷ c ∷ total ∷ [] }
 
--- a refused book: number and row
+-- a refused book: number and row, and no figure
 abbrev pub refuses : List ℕ → ℕ → ℕ → Worked
-refuses book number row = record { given = shown (reportOf book); expected = number ∷ row ∷ 0 ∷ 0 ∷ 0 ∷ 0 ∷ 0 ∷ 0 ∷ 0 ∷ [] }
+refuses book number row =
+    record { given = reportEntries (reportOf standardTable book); expected = number ∷ row ∷ 0 ∷ replicate 7 0 }
 
--- the band of a row at some days and a coupon
+-- the band of some days at a coupon
+abbrev pub bandAt : (coupon days : ℕ) → ℕ
+bandAt coupon days = interestBand (leg 1 7 1 days coupon 1 0 .row)
+
 abbrev pub falls : (days coupon band : ℕ) → Worked
-falls days coupon band = record { given = interestBand (decode (leg 7 1 days coupon 1 0)) ∷ []; expected = band ∷ [] }
+falls days coupon band = record { given = bandAt coupon days ∷ []; expected = band ∷ [] }
 
+-- ---- the books
 -- E2: the interest example of the Amendment, C.2
 abbrev pub interestExample : List ℕ
 interestExample =
-    interestBook
-    (leg 7 2 2880 800 13330 0
+    bookOf
+    (leg 1 7 2 2880 800 13330 0
     ∷ government 7 60 75000 0
     ∷ government 7 270 150000 0
     ∷ government 7 2880 0 150000
@@ -77,29 +64,27 @@ interestExample =
 
 -- E3: one bond in each zone, the middle one short
 abbrev pub threeZones : List ℕ
-threeZones = interestBook (government 31 270 75 0 ∷ government 31 900 0 30 ∷ government 31 6000 10 0 ∷ [])
+threeZones = bookOf (government 31 270 75 0 ∷ government 31 900 0 30 ∷ government 31 6000 10 0 ∷ [])
 
 -- E4: two books of two zones each
 abbrev pub nearZones : List ℕ
-nearZones = interestBook (government 9 270 75 0 ∷ government 9 900 0 30 ∷ [])
+nearZones = bookOf (government 9 270 75 0 ∷ government 9 900 0 30 ∷ [])
 
 abbrev pub farZones : List ℕ
-farZones = interestBook (government 9 900 30 0 ∷ government 9 6000 0 10 ∷ [])
+farZones = bookOf (government 9 900 30 0 ∷ government 9 6000 0 10 ∷ [])
 
 -- E5: the commodities example of the Amendment, C.3
 abbrev pub commodityExample : List ℕ
-commodityExample =
-    file [] [] [] (commodity 4 150 800 0 ∷ commodity 4 150 0 1000 ∷ commodity 4 600 600 0 ∷ commodity 4 1100 0 600 ∷ [])
+commodityExample = bookOf (commodity 4 150 800 0 ∷ commodity 4 150 0 1000 ∷ commodity 4 600 600 0 ∷ commodity 4 1100 0 600 ∷ [])
 
 -- E6: five currencies and gold
 abbrev pub currencyExample : List ℕ
 currencyExample =
-    file [] []
-    (currency 1 50 0 ∷ currency 2 100 0 ∷ currency 3 150 0 ∷ currency 30 0 20 ∷ currency 31 0 180 ∷ currency 0 0 35 ∷ []) []
+    bookOf (currency 1 50 0 ∷ currency 2 100 0 ∷ currency 3 150 0 ∷ currency 30 0 20 ∷ currency 31 0 180 ∷ currency 0 0 35 ∷ [])
 
 -- E9: one foreign exchange row
 abbrev pub oneRow : ℕ → List ℕ
-oneRow amount = file [] [] (currency 5 amount 0 ∷ []) []
+oneRow amount = bookOf (currency 5 amount 0 ∷ [])
 
 unfoldable pub worked : List Worked
 worked =
@@ -129,5 +114,21 @@ worked =
     ∷ costs (oneRow 1000000000) 0 0 0 0 80000000000000 0 80000000000000
     ∷ refuses (oneRow 1000000001) 9 0
     -- E10
-    ∷ refuses (two 4001 ++ replicate 6 0) 2 0
+    ∷ refuses (twoBytes 4001 ++ replicate 6 0) 2 0
     ∷ []
+
+-- ---- two books of one zone each, of which joining says that the two together cost at most 525,000 and 525,000
+abbrev pub firstZone : List ℕ
+firstZone = bookOf (government 9 270 75 0 ∷ [])
+
+abbrev pub secondZone : List ℕ
+secondZone = bookOf (government 9 900 30 0 ∷ [])
+
+-- each figure of a list is at most the one in its place
+pub data Within : (figures most : List ℕ) → Type 0 where
+  all-within : Within [] []
+  one-within : {f m : ℕ} {more most : List ℕ} → f ≤ m → Within more most → Within (f ∷ more) (m ∷ most)
+
+abbrev pub JoinedWithin : Type 0
+JoinedWithin =
+    Within (reportFigures (reportOf standardTable (joinedBook firstZone secondZone (replicate 40 0)))) (0 ∷ 1050000 ∷ 0 ∷ 0 ∷ 0 ∷ 0 ∷ 1050000 ∷ [])

@@ -1,8 +1,4 @@
--- Laws of writing, of a file that is put together, and of the joined book.
-pub mod Writing
-pub mod Classwise
-pub mod Whole
-pub mod Appended
+-- Laws of the joined book, of who is told no, and of what a join leaves in the output.
 pub mod JoinedBook
 pub mod Settling
 pub mod Outcome

@@ -11,11 +11,11 @@ use Rattle.book.specs.declared.Counts.{Counts}
 use Rattle.book.specs.declared.Refusal.{Refusal}
 use Rattle.book.specs.Counts.{contentsSize, rowSize, classes, rowCount}
 use Rattle.book.specs.Refusals.{refused}
-use Rattle.join.specs.Written.{written}
-use Rattle.join.specs.Files.{contentsBytes, fileOf}
+use Rattle.layout.specs.Written.{written}
+use Rattle.layout.specs.Files.{contentsBytes, fileOf}
 use Rattle.join.specs.Joined.{joinedCounts, joinedBody, joined, joinRefusal, joinedOf, joinOutput}
-use Rattle.join.proofs.Writing.{written-after}
-use Rattle.join.proofs.Whole.{contents-length}
+use Rattle.layout.proofs.Writing.{written-after}
+use Rattle.layout.proofs.Whole.{contents-length}
 use Rattle.join.proofs.JoinedBook.{joined-length}
 use Rattle.join.proofs.Settling.{Joins, not-refused}
 

@@ -1,73 +1,65 @@
 -- The refusal of a join by what was read of the two books; and a join is accepted exactly where both books are and neither 11 nor 12 applies.
 -- Assumes nothing.
 use mathlib.Core.Path.{_≡_, refl, ap, _∙_}
-use mathlib.Core.Bool.{Bool, true, false, cond}
+use mathlib.Core.Bool.{Bool, true, false}
 use mathlib.Core.List.{List}
 use Prim.Native.Nat.{ℕ, _+_, _*_, _≤_}
 use native.Mathlib.Omega.{arith}
 use lib.ListN.{length}
 use lib.Dec.{ltb, eqb}
 use borrow.Author.Tests.{eqb-true, eqb-false, not-false, ltb-false, le-ltb}
+use Rattle.sums.proofs.Cases.{cond-else}
 use Rattle.book.specs.declared.Counts.{Counts}
 use Rattle.book.specs.declared.Refusal.{Refusal}
-use Rattle.book.specs.declared.Contents.{Contents}
+use Rattle.book.specs.declared.Checked.{Checked}
 use Rattle.book.specs.Counts.{contentsSize, rowSize, countsOf, rowCount}
 use Rattle.book.specs.Refusals.{mostRows, refused, refusalOf}
 use Rattle.book.specs.Accepted.{Accepted}
-use Rattle.book.specs.Parts.{noCounts, handedOut, contentsOf}
+use Rattle.book.specs.Inner.Reading.{checkedWith, checkedOf, ReadOf}
 use Rattle.book.proofs.Acceptance.{accepted, refused-with-none}
 use Rattle.join.specs.Joined.{addedCounts, joinedCounts, joined, inBook, settled, joinRefusal}
 use Rattle.join.proofs.JoinedBook.{joined-length}
 
--- ---- the contents that were read
-pub read-few : (s : List ℕ) → rowCount (contentsOf s .counts) ≤ mostRows
-unfolding contentsOf handedOut rowCount
-read-few s = go (eqb (refusalOf s .number) 0) refl
-  where
-    go : (passes : Bool) → eqb (refusalOf s .number) 0 ≡ passes → rowCount (cond passes (countsOf s) noCounts) ≤ mostRows
-    go true e = accepted s (eqb-true _ _ e) .few
-    go false e = omega arith
-
-read-counts : (s : List ℕ) → Accepted s → contentsOf s .counts ≡ countsOf s
-unfolding contentsOf handedOut refused
-read-counts s ok = simp (refused-with-none s ok)
-
--- the two books are read, and their counts added
-pub record Read (a b : List ℕ) (first second : Contents) (counts : Counts) : Type 0 where
-  pub of-a : first ≡ contentsOf a
-  pub of-b : second ≡ contentsOf b
+-- ---- what was read of the two books, and their counts added
+pub record Read (a b : List ℕ) (first second : Checked) (counts : Counts) : Type 0 where
+  pub of-a : ReadOf a first
+  pub of-b : ReadOf b second
   pub sum : counts ≡ addedCounts (first .counts) (second .counts)
 
--- of accepted books the counts are their own
-pub own-counts : {a b : List ℕ} {first second : Contents} {counts : Counts} → Read a b first second counts → Accepted a → Accepted b
-    → (first .counts ≡ countsOf a) × (second .counts ≡ countsOf b) × (counts ≡ joinedCounts a b)
-unfolding joinedCounts
-own-counts {a} {b} r ok-a ok-b =
-    let counts-a = rw (← r .of-a) at (read-counts a ok-a) in
-    let counts-b = rw (← r .of-b) at (read-counts b ok-b) in
-    (counts-a, counts-b, rw (counts-a, counts-b) at (r .sum))
+module _ {a b : List ℕ} {first second : Checked} {counts : Counts} (r : Read a b first second counts) where
+  of-first : first .refusal ≡ refusalOf a
+  unfolding checkedOf checkedWith
+  of-first = ap (λ (x : Checked). x .refusal) (r .of-a .is)
+
+  of-second : second .refusal ≡ refusalOf b
+  unfolding checkedOf checkedWith
+  of-second = ap (λ (x : Checked). x .refusal) (r .of-b .is)
+
+  -- of accepted books the counts are their own
+  pub own-counts : Accepted a → Accepted b
+      → (first .counts ≡ countsOf a) × (second .counts ≡ countsOf b) × (counts ≡ joinedCounts a b)
+  unfolding joinedCounts refused
+  own-counts ok-a ok-b =
+      let counts-a = r .of-a .own (ap (λ (x : Refusal). x .number) (of-first ∙ refused-with-none a ok-a)) in
+      let counts-b = r .of-b .own (ap (λ (x : Refusal). x .number) (of-second ∙ refused-with-none b ok-b)) in
+      (counts-a, counts-b, rw (counts-a, counts-b) at (r .sum))
 
 -- ---- the refusal
--- the same test and the same refusal: what follows matters only where the test does not hold
-cond-same : (test : Bool) (r rest rest′ : Refusal) → (test ≡ false → rest ≡ rest′) → cond test r rest ≡ cond test r rest′
-cond-same true r rest rest′ h = refl
-cond-same false r rest rest′ h = h refl
-
 -- the rows and the length matter only where both books are accepted
 settled-same : (x y : Refusal) (rows size rows′ size′ room : ℕ)
     → (x .number ≡ 0 → y .number ≡ 0 → (rows ≡ rows′) × (size ≡ size′)) → settled x y rows size room ≡ settled x y rows′ size′ room
 unfolding settled
 settled-same x y rows size rows′ size′ room same =
-    cond-same _ _ _ _ (λ p. cond-same _ _ _ _ (λ q.
+    cond-else _ _ _ _ (λ p. cond-else _ _ _ _ (λ q.
     let both = same (eqb-true _ _ (not-false _ p)) (eqb-true _ _ (not-false _ q)) in
     rw (both .0, both .1)))
 
--- what is settled by the contents that were read is the refusal of the join
-pub settled-read : {a b : List ℕ} {first second : Contents} {counts : Counts} → Read a b first second counts → (rows room : ℕ) → rows ≡ rowCount counts
+-- what is settled by what was read is the refusal of the join
+pub settled-read : {a b : List ℕ} {first second : Checked} {counts : Counts} → Read a b first second counts → (rows room : ℕ) → rows ≡ rowCount counts
     → settled (first .refusal) (second .refusal) rows (contentsSize + rowSize * rows) room ≡ joinRefusal a b room
-unfolding joinRefusal contentsOf handedOut
+unfolding joinRefusal
 settled-read {a} {b} r rows room e =
-    rw (r .of-a, r .of-b)
+    rw (of-first r, of-second r)
     (settled-same (refusalOf a) (refusalOf b) rows _ _ _ room (λ first second.
     let ok-a = accepted a first in
     let ok-b = accepted b second in

@@ -8,8 +8,8 @@ use Rattle.book.specs.declared.Counts.{Counts}
 use Rattle.book.specs.declared.Refusal.{Refusal}
 use Rattle.book.specs.Counts.{countsOf, rowCount, bodyOf}
 use Rattle.book.specs.Refusals.{mostRows, refused, refusalOf}
-use Rattle.join.specs.Written.{written}
-use Rattle.join.specs.Files.{fileOf}
+use Rattle.layout.specs.Written.{written}
+use Rattle.layout.specs.Files.{fileOf}
 pub use Rattle.join.specs.declared.Joined.{Joined}
 
 -- counts added class by class (document 01, Joining)

@@ -1,6 +1,6 @@
 // Joins two books into an output that the caller lends.
 mod bodies;
-mod contents;
+mod counts;
 
 use book::CONTENTS_SIZE;
 use book::MOST_ROWS;
@@ -8,7 +8,7 @@ use book::ROW_SIZE;
 use book::Refusal;
 ghost use mathlib.Core.Path.{_≡_};
 ghost use lib.ListN.{length as len};
-ghost use Rattle.join.specs.Joined.{settled, joinedOf, joinOutput};
+ghost use Rattle.join.specs.Joined.{inBook, settled, joinedOf, joinOutput};
 
 // Why a join is refused, all zero where it is not, and the joined length, 0 where it is refused.
 pub struct Joined {
@@ -22,15 +22,15 @@ pub fn join(a: &[u8], b: &[u8], out: &mut [u8]) -> Joined
 {
     let first = book::read(a);
     let second = book::read(b);
-    let counts = contents::add(first.counts, second.counts);
+    let counts = counts::add(first.counts, second.counts);
     let rows = counts.rows();
     let length = CONTENTS_SIZE + ROW_SIZE * rows;
     let refusal = settle(first.refusal, second.refusal, rows, length, out.len());
     if refusal.number != 0 {
         return Joined { refusal, length: 0 };
     }
-    contents::write_contents(counts, out);
-    bodies::write_bodies(a, first, b, second, out);
+    layout::contents::write_contents(counts, out);
+    bodies::write_bodies(a, first.counts, b, second.counts, out);
     Joined { refusal, length }
 }
 
@@ -39,23 +39,27 @@ fn settle(first: Refusal, second: Refusal, rows: usize, length: usize, room: usi
     ensures { λ r. ⌜ r ≡ settled first second rows length room ⌝ }
 {
     if first.number != 0 {
-        return refused(first.number, first.row, 0);
+        return in_book(0, first);
     }
     if second.number != 0 {
-        return refused(second.number, second.row, 1);
+        return in_book(1, second);
     }
     if MOST_ROWS < rows {
-        return refused(11, 0, 0);
+        return book::refused(11, 0);
     }
     if room < length {
-        return refused(12, 0, 0);
+        return book::refused(12, 0);
     }
-    refused(0, 0, 0)
+    book::refused(0, 0)
 }
 
-// A refusal of a book, 0 for A and 1 for B, at a row.
-fn refused(number: u8, row: u16, book: u8) -> Refusal
-    ensures { λ r. ⌜ r ≡ record { number = number; row = row; book = book } ⌝ }
+// A refusal of book 0, which is A, or of book 1, which is B.
+fn in_book(book: u8, refusal: Refusal) -> Refusal
+    ensures { λ r. ⌜ r ≡ inBook book refusal ⌝ }
 {
-    Refusal { number, row, book }
+    Refusal {
+        number: refusal.number,
+        row: refusal.row,
+        book,
+    }
 }

@@ -1,19 +1,41 @@
--- The interest ladder adds up, for all bands and for every table of per cents up to 100.
+-- The interest ladder adds up, for all bands and for every accepted table of per cents; and document 01's table is accepted.
 -- Assumes nothing.
-use Prim.Native.Nat.{ℕ, _+_, _*_, _≤_}
-use mathlib.Core.Path.{_≡_, sym, ap, _∙_}
-use mathlib.Core.List.{_++_}
+use Prim.Native.Nat.{ℕ, zero, suc, _+_, _*_, _≤_}
+use mathlib.Core.Path.{_≡_, refl, sym, ap, _∙_}
+use mathlib.Core.Bool.{Bool, true, _&&_}
+use mathlib.Core.List.{List, [], _∷_, _++_}
 use native.Mathlib.Nat.{mul-le-mul-right}
 use native.Mathlib.Omega.{arith}
-use Rattle.ladder.specs.Sides.{Bands, _⊕_, gross, rest, absolute, total, vertical}
-use Rattle.ladder.specs.Interest.{Zones, Matches, Percents, Accepted, AddsUp, percents, zoneNets, together, held, matches, charge, chargeOf, matchSum, allBands}
-use Rattle.ladder.proofs.Matching.{Takes, takes-rest, takes-then, takes-beside, takes-gross, takes-net}
+use lib.ListN.{getD}
+use lib.Dec.{leb}
+use borrow.Author.Tests.{leb-true}
+use Rattle.sums.proofs.Cases.{both}
+use Rattle.ladder.specs.Position.{Bands, _⊕_, gross, net, absoluteNet, total, vertical}
+use Rattle.ladder.specs.Table.{Percents, AcceptedPercents, AcceptedTable, standardTable, weightIn}
+use Rattle.ladder.specs.Interest.{Zones, Matches, zoneNets, together, matches, charge, allBands}
+use Rattle.ladder.specs.Inner.Steps.{zonesGross}
+use Rattle.ladder.proofs.Matching.{Takes, takes-matched, takes-then, takes-both, takes-gross, takes-net}
 use Rattle.ladder.proofs.Totals.{takes-vertical, total-append, vertical-append}
-use Rattle.ladder.proofs.Across.{spent-rest, crossing-adds-up, residual-is-net}
+use Rattle.ladder.proofs.Across.{OneSided, unopposed-net, crossing-adds-up, residual-is-net}
+
+-- the charge of a ladder from its bands
+abbrev pub chargeOf : Percents → Zones → Bands → ℕ
+chargeOf p z f = charge p (matches z f)
+
+-- each match counted on one side
+abbrev pub matchSum : Matches → ℕ
+matchSum m = m .vertical + m .zone1 + m .zone2 + m .zone3 + m .zones12 + m .zones23 + m .zones13
+
+-- matches and residual make the gross; the residual is the net of all; the charge lies between the residual alone and all matches at 100%
+pub record AddsUp (p : Percents) (z : Zones) (f : Bands) : Type 0 where
+  pub gross : 2 * matchSum (matches z f) + (matches z f) .residual ≡ (matches z f) .gross
+  pub residual : (matches z f) .residual ≡ absoluteNet (total f (allBands z))
+  pub least : 100 * (matches z f) .residual ≤ chargeOf p z f
+  pub most : 2 * chargeOf p z f ≤ 100 * ((matches z f) .gross + (matches z f) .residual)
 
 module _ (z : Zones) (f : Bands) where
   -- three zones put together
-  pub three-totals : (g : Bands) → total g (allBands z) ≡ total g (z .first) ⊕ (total g (z .second) ⊕ total g (z .third))
+  three-totals : (g : Bands) → total g (allBands z) ≡ total g (z .first) ⊕ (total g (z .second) ⊕ total g (z .third))
   three-totals g = rw (total-append g (z .first), total-append g (z .second))
 
   pub three-grosses : gross (total f (z .first)) + gross (total f (z .second)) + gross (total f (z .third)) ≡ gross (total f (allBands z))
@@ -29,24 +51,27 @@ module _ (z : Zones) (f : Bands) where
   unfolding matches
   takes-zones =
       takes-then (takes-vertical f (allBands z))
-      (rw (three-totals (λ i. rest (f i)))
-      (takes-beside (takes-rest _) (takes-beside (takes-rest _) (takes-rest _))))
+      (rw (three-totals (λ i. net (f i)))
+      (takes-both (takes-matched _) (takes-both (takes-matched _) (takes-matched _))))
+
+  pub one-sided : OneSided (zoneNets z f)
+  one-sided = record { zone1 = unopposed-net _; zone2 = unopposed-net _; zone3 = unopposed-net _ }
 
   pub zones-add-up : 2 * ((matches z f) .zones12 + (matches z f) .zones23 + (matches z f) .zones13) + (matches z f) .residual
-      ≡ held (zoneNets z f)
+      ≡ zonesGross (zoneNets z f)
   unfolding matches
-  zones-add-up = crossing-adds-up (zoneNets z f) (record { zone1 = spent-rest _; zone2 = spent-rest _; zone3 = spent-rest _ })
+  zones-add-up = crossing-adds-up (zoneNets z f) one-sided
 
   pub gross-adds-up : 2 * matchSum (matches z f) + (matches z f) .residual ≡ (matches z f) .gross
   unfolding matches
   gross-adds-up = omega (arith, takes-gross takes-zones, zones-add-up)
 
-  pub residual-is-whole-net : (matches z f) .residual ≡ absolute (total f (allBands z))
+  pub residual-is-whole-net : (matches z f) .residual ≡ absoluteNet (total f (allBands z))
   unfolding matches
   residual-is-whole-net = residual-is-net (zoneNets z f) ∙ ap gross (sym (takes-net takes-zones))
 
 -- a charge lies between its residual alone and all matches at 100%
-module _ (p : Percents) (ok : Accepted p) (x : Matches) where
+module _ (p : Percents) (ok : AcceptedPercents p) (x : Matches) where
   residual≤charge : 100 * x .residual ≤ charge p x
   residual≤charge = omega arith
 
@@ -67,7 +92,7 @@ module _ (p : Percents) (ok : Accepted p) (x : Matches) where
         at-most {per = p .apart} (x .zones13) (omega arith),
       )
 
-pub adds-up : (p : Percents) → Accepted p → (z : Zones) (f : Bands) → AddsUp p z f
+pub adds-up : (p : Percents) → AcceptedPercents p → (z : Zones) (f : Bands) → AddsUp p z f
 adds-up p ok z f =
     record {
       gross = gross-adds-up z f;
@@ -77,9 +102,20 @@ adds-up p ok z f =
     }
 
 -- what a machine number must hold
-pub charge-within : (p : Percents) → Accepted p → (z : Zones) (f : Bands) → chargeOf p z f ≤ 100 * (matches z f) .gross
+pub charge-within : (p : Percents) → AcceptedPercents p → (z : Zones) (f : Bands) → chargeOf p z f ≤ 100 * (matches z f) .gross
 charge-within p ok z f = omega (arith, charge≤ p ok (matches z f), gross-adds-up z f)
 
--- document 01's table is one of them
-pub percents-accepted : Accepted percents
-percents-accepted = omega arith
+-- ---- document 01's table is accepted
+up-to : ℕ → List ℕ → Bool
+up-to bound [] = true
+up-to bound (n ∷ list) = leb n bound && up-to bound list
+
+entry-within : (bound : ℕ) (list : List ℕ) → up-to bound list ≡ true → (k : ℕ) → getD list k 0 ≤ bound
+unfolding up-to
+entry-within bound [] e k = omega arith
+entry-within bound (n ∷ list) e zero = leb-true _ _ (both _ _ e .0)
+entry-within bound (n ∷ list) e (suc k) = entry-within bound list (both (leb n bound) _ e .1) k
+
+pub standard-accepted : AcceptedTable standardTable
+unfolding weightIn up-to
+standard-accepted = record { weights = entry-within 2000 (standardTable .weights) refl; percents = omega arith }

@@ -1,126 +1,117 @@
 -- The ladders as the code makes them: band by band, and then whole.
 -- Assumes nothing.
 use Prim.Native.Nat.{ℕ, suc, _+_, _*_, _≤_, _<_, max}
-use mathlib.Core.Path.{_≡_, refl, sym, ap}
-use mathlib.Core.List.{List}
-use native.Mathlib.Decide.{le-ind}
-use native.Mathlib.Nat.{le-refl, zero-add}
+use mathlib.Core.Path.{_≡_, refl, sym, ap, _∙_}
+use mathlib.Core.List.{List, _∷_}
+use native.Mathlib.Nat.{zero-add}
 use native.Mathlib.Numerals.{add-one}
 use native.Mathlib.Omega.{arith}
-use Rattle.ladder.specs.Sides.{Sides, Bands, empty, limit, gross, rest, total, vertical, netted, span}
-use Rattle.ladder.specs.Interest.{Matches, Zones, Percents, Accepted, matches, charge, matchSum, allBands, zones}
-use Rattle.ladder.specs.Commodity.{Carried, nothing, toBand, carry, carryFigures, commodityBands, commodityLimit}
-use Rattle.ladder.specs.Nets.{groups, currencies, absoluteNets, shorthand}
-use Rattle.ladder.specs.Steps.{SidesStep, Zone, Sound, ZoneOf, InterestOf, CommodityOf, NetsOf, Bounded, netStep, zoneOf, withBand, combined}
-use Rattle.ladder.proofs.Matching.{takes-gross}
-use Rattle.ladder.proofs.Totals.{takes-vertical, total-last, vertical-last}
-use Rattle.ladder.proofs.AddsUp.{three-grosses, three-verticals, gross-adds-up, charge-within}
+use Rattle.sums.specs.Sums.{span}
+use Rattle.ladder.specs.Position.{Position, Bands, _⊕_, empty, gross, net, total, vertical, bandNets}
+use Rattle.ladder.specs.Table.{Percents, AcceptedPercents}
+use Rattle.ladder.specs.Interest.{Matches, Zones, matches, charge, allBands, zones}
+use Rattle.ladder.specs.Commodity.{Carried, nothing, toBand, carry, carryFigures, commodityBands}
+use Rattle.ladder.specs.Nets.{absoluteNets, shorthand}
+use Rattle.ladder.specs.Inner.Steps.{PositionStep, Zone, NetStep, ZoneOf, InterestOf, CommodityOf, NetsOf, limit, commodityLimit, netStep, bandStep, carriedStep, zonesStep, zoneOf, combined}
+use Rattle.ladder.proofs.Totals.{total-last, vertical-last, fewer-within}
+use Rattle.ladder.proofs.AddsUp.{matchSum, three-grosses, three-verticals, gross-adds-up, charge-within}
 use Rattle.ladder.proofs.Netting.{absolutes-within, shorthand-within}
 use Rattle.ladder.proofs.Carrying.{carry-last, carry-gross, commodity-within}
-use Rattle.ladder.proofs.Stepping.{same-zone}
 
--- ---- a zone, band by band
-pub zone-none : (f : Bands) (start : ℕ) → record { gross = 0; vertical = 0; nets = empty } ≡ zoneOf f (span start 0)
+-- two zones with the same sums are equal
+pub same-zone : {a b : Zone} → a .gross ≡ b .gross → a .vertical ≡ b .vertical → a .nets ≡ b .nets → a ≡ b
+same-zone p q r = λ i. record { gross = p i; vertical = q i; nets = r i }
+
+-- ---- a zone, band by band: what its first n bands sum to
+pub record Gathered (f : Bands) (start n : ℕ) (z : Zone) : Type 0 where
+  pub is : z ≡ zoneOf f (span start n)
+  pub sums : 2 * z .vertical + gross (z .nets) ≡ z .gross
+
+pub gathered-none : (f : Bands) (start : ℕ) → Gathered f start 0 (record { gross = 0; vertical = 0; nets = empty })
 unfolding zoneOf total vertical span
-zone-none f start = refl
+gathered-none f start = record { is = refl; sums = refl }
 
-pub zone-more : (f : Bands) (start n : ℕ) {z : Zone} → z ≡ zoneOf f (span start n) → withBand z (f (start + n)) ≡ zoneOf f (span start (n + 1))
-unfolding zoneOf withBand
-zone-more f start n so-far =
-    rw (so-far, add-one, total-last f start n, vertical-last f start n, total-last (λ k. rest (f k)) start n)
-    (same-zone (omega arith) refl refl)
-
-pub zone-made : (f : Bands) (zone : List ℕ) {z : Zone} → z ≡ zoneOf f zone → ZoneOf f zone z
+-- the first n bands and the next are within the gross of all
+pub gathered-room : {f : Bands} {start n : ℕ} {z : Zone} → Gathered f start n z → (many : ℕ) → n < many → gross (total f (span start many)) ≤ limit
+    → z .gross + gross (f (start + n)) ≤ limit
 unfolding zoneOf
-zone-made f zone is =
-    record { is = is; is-gross = rw is; is-nets = rw is; sums = rw is (takes-gross (takes-vertical f zone)) }
+gathered-room {f} {start} {n} so-far many h within = rw (so-far .is) (omega (arith, fewer-within f start (suc n) many h, ap gross (total-last f start n)))
 
--- the first n bands are within the gross of all, and so are they with the next
-total-within : (f : Bands) (start n many : ℕ) → n ≤ many → gross (total f (span start n)) ≤ gross (total f (span start many))
-total-within f start n many h =
-    le-ind (λ (m : ℕ). gross (total f (span start n)) ≤ gross (total f (span start m))) (le-refl _)
-    (λ m _ below. omega (arith, ap gross (total-last f start m))) many h
+pub gathered-next : {f : Bands} {start n : ℕ} {z : Zone} {step : PositionStep} → Gathered f start n z
+    → NetStep (z .nets ⊕ f (start + n)) (bandStep (z .nets) (f (start + n))) step
+    → Gathered f start (n + 1) (record { gross = z .gross + gross (f (start + n)); vertical = z .vertical + step .matched; nets = step .left })
+unfolding zoneOf bandStep
+gathered-next {f} {start} {n} so-far made =
+    record {
+      is =
+          rw (made .is, so-far .is, add-one, total-last f start n, vertical-last f start n, total-last (λ k. net (f k)) start n)
+          (same-zone (omega arith) refl refl);
+      sums = omega arith;
+    }
 
-pub zone-room : (f : Bands) (start n many : ℕ) {z : Zone} → z ≡ zoneOf f (span start n) → n < many → gross (total f (span start many)) ≤ limit
-    → Sound z × (z .gross + gross (f (start + n)) ≤ limit)
-zone-room f start n many so-far h within =
-    let made = zone-made f (span start n) so-far in
-    (made .sums, omega (arith, total-within f start (suc n) many h, ap gross (total-last f start n)))
+pub gathered-all : {f : Bands} {start n many : ℕ} {z : Zone} → Gathered f start n z → n ≡ many → ZoneOf f (span start many) z
+unfolding zoneOf
+gathered-all so-far all =
+    let is = rw all at (so-far .is) in
+    record { is = is; is-gross = rw is; is-nets = rw is; sums = so-far .sums }
 
--- the three zones make the ladder
+-- ---- the three zones make the ladder
 pub matches-combined : (z : Zones) (f : Bands) {a b c : Zone} → a ≡ zoneOf f (z .first) → b ≡ zoneOf f (z .second) → c ≡ zoneOf f (z .third)
     → combined a b c ≡ matches z f
-unfolding combined zoneOf matches
+unfolding combined zoneOf matches zonesStep
 matches-combined z f a b c = rw (a, b, c) (cc (three-grosses z f, three-verticals z f))
+
+pub interest-matches : {f : Bands} {a b c : Zone} {m : Matches} → ZoneOf f (zones .first) a → ZoneOf f (zones .second) b → ZoneOf f (zones .third) c
+    → m ≡ combined a b c → m ≡ matches zones f
+interest-matches {f} first second third is = is ∙ matches-combined zones f (first .is) (second .is) (third .is)
 
 pub matches-within : (z : Zones) (f : Bands) {m : Matches} → m ≡ matches z f → matchSum m + m .residual ≤ gross (total f (allBands z))
 unfolding matches
 matches-within z f is = rw is (omega (arith, gross-adds-up z f))
 
-pub interest-in-steps : (p : Percents) → Accepted p → (f : Bands) {m : Matches} {paid : ℕ} → m ≡ matches zones f → paid ≡ charge p m
-    → InterestOf p f
-    (record {
-      gross = m .gross;
-      vertical = m .vertical;
-      zone1 = m .zone1;
-      zone2 = m .zone2;
-      zone3 = m .zone3;
-      zones12 = m .zones12;
-      zones23 = m .zones23;
-      zones13 = m .zones13;
-      residual = m .residual;
-      charge = paid;
-    })
+pub interest-in-steps : (p : Percents) → AcceptedPercents p → (f : Bands) {m : Matches} {paid : ℕ} → m ≡ matches zones f → paid ≡ charge p m
+    → InterestOf p f (record { matches = m; charge = paid })
 unfolding matches
 interest-in-steps p ok f is cost =
     record { is = rw (cost, is); is-gross = rw is; within = rw (cost, is) (charge-within p ok zones f) }
 
--- ---- a commodity, band by band
+-- ---- a commodity, band by band: what its first n bands give
 pub record Carries (f : Bands) (n : ℕ) (s : Carried) : Type 0 where
   pub is : s ≡ carry nothing f (span 0 n)
-  pub carried : s .carried ≤ commodityLimit * n
+  pub within : 2 * s .matches + gross (s .position) ≤ commodityLimit
+  pub carried≤ : s .carried ≤ commodityLimit * n
 
 pub carries-none : (f : Bands) → Carries f 0 nothing
 unfolding carry span
-carries-none f = record { is = refl; carried = omega arith }
+carries-none f = record { is = refl; within = omega arith; carried≤ = omega arith }
 
-module _ (f : Bands) (within : gross (total f commodityBands) ≤ commodityLimit) where
-  pub carries-bounded : (n : ℕ) {s : Carried} → n ≤ 7 → Carries f n s → Bounded s
-  carries-bounded n h so-far =
-      record { matches = rw (so-far .is) (omega (arith, carry-gross f (span 0 n), total-within f 0 n 7 h)); carried = omega arith }
+module _ {f : Bands} {n : ℕ} {s : Carried} (so-far : Carries f n s) (within : gross (total f commodityBands) ≤ commodityLimit) (h : n < 7) where
+  pub carries-room : 2 * s .matches + gross (s .position) + gross (f n) ≤ commodityLimit
+  carries-room =
+      rw (so-far .is)
+      (omega (arith, carry-gross f (span 0 n), fewer-within f 0 (suc n) 7 h, ap gross (total-last f 0 n), ap (λ (k : ℕ). gross (f k)) (zero-add n)))
 
-  pub carries-room : (n : ℕ) {s : Carried} → n < 7 → Carries f n s → Bounded s × (gross (s .net) + gross (f n) ≤ commodityLimit)
-  carries-room n h so-far = (
-    carries-bounded n (omega arith) so-far,
-    rw (so-far .is)
-        (omega (
-          arith,
-          carry-gross f (span 0 n),
-          total-within f 0 (suc n) 7 h,
-          ap gross (total-last f 0 n),
-          ap (λ (k : ℕ). gross (f k)) (zero-add n),
-        )),
-  )
-
-  pub carries-more : (n : ℕ) {s : Carried} → n < 7 → Carries f n s → Carries f (n + 1) (toBand s (f n))
-  unfolding toBand
-  carries-more n h so-far =
+  pub carries-next : {step : PositionStep} → NetStep (s .position ⊕ f n) (carriedStep (s .position) (f n)) step
+      → Carries f (n + 1) (record { matches = s .matches + step .matched; carried = s .carried + gross (s .position); position = step .left })
+  unfolding toBand carriedStep
+  carries-next made =
       record {
-        is = rw (so-far .is, add-one) (sym (carry-last nothing f n));
-        carried = omega (arith, carries-room n h so-far);
+        is = rw (made .is, so-far .is, add-one) (sym (carry-last nothing f n));
+        within = omega (arith, carries-room);
+        carried≤ = omega arith;
       }
 
-pub carries-all : (f : Bands) {n : ℕ} {s : Carried} → n ≡ 7 → Carries f n s → CommodityOf f (carryFigures s)
-carries-all f all so-far =
+pub carries-all : {f : Bands} {n : ℕ} {s : Carried} → Carries f n s → n ≡ 7 → CommodityOf f (carryFigures s)
+carries-all {f} so-far all =
     let is = rw all at (so-far .is) in
     record { is = ap carryFigures is; within = rw is (commodity-within f) }
 
 -- ---- nets alone
-pub absolutes-in-steps : (f : Bands) {nets : Sides} → nets ≡ netted f groups → NetsOf f absoluteNets (gross nets)
-absolutes-in-steps f is = record { is = ap gross is; within = rw is (absolutes-within groups f) }
+pub absolutes-in-steps : (f : Bands) (list : List ℕ) {nets : Position} → nets ≡ bandNets f list → NetsOf f list (absoluteNets list) (gross nets)
+absolutes-in-steps f list is = record { is = ap gross is; within = rw is (absolutes-within list f) }
 
-pub shorthand-in-steps : (f : Bands) {nets : Sides} {gold : SidesStep} {most : ℕ}
-    → nets ≡ netted f currencies → gold ≡ netStep (f 0) → most ≡ max (nets .long) (nets .short) → NetsOf f shorthand (most + gross (gold .left))
-unfolding netStep span
-shorthand-in-steps f is-nets is-gold is-most =
-    record { is = rw (is-most, is-nets, is-gold); within = rw (is-most, is-nets, is-gold) (shorthand-within currencies f) }
+pub shorthand-in-steps : (f : Bands) (list : List ℕ) {nets : Position} {gold : PositionStep} {most : ℕ}
+    → nets ≡ bandNets f list → gold ≡ netStep (f 0) → most ≡ max (nets .long) (nets .short) → NetsOf f (0 ∷ list) (shorthand list) (most + gross (gold .left))
+unfolding netStep
+shorthand-in-steps f list is-nets is-gold is-most =
+    record { is = rw (is-most, is-nets, is-gold); within = rw (is-most, is-nets, is-gold) (shorthand-within list f) }

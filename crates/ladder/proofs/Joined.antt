@@ -1,167 +1,150 @@
 -- Two ladders added cost at most the two together, where one zone is empty in the sum, under every accepted table.
--- With one zone empty, twice the charge is a sum of gross and of absolute nets, each times a number that is not negative.
+-- Twice the charge is a sum of gross, of absolute nets and of the spread, each times a number that is not negative.
 -- Assumes nothing.
 use Prim.Native.Nat.{ℕ, _+_, _-_, _*_, _≤_}
 use mathlib.Core.Path.{_≡_, ap}
 use mathlib.Core.List.{List}
 use native.Mathlib.Nat.{mul-le-mul-left}
 use native.Mathlib.Omega.{arith}
-use Rattle.ladder.specs.Sides.{Bands, _⊞_, gross, matched, absolute, total, vertical, netted}
-use Rattle.ladder.specs.Interest.{Zones, Matches, Percents, Accepted, OneEmpty, first-empty, second-empty, third-empty, zoneNet, zoneNets, held, matches, chargeOf, allBands}
-use Rattle.ladder.proofs.Matching.{takes-rest, takes-gross}
-use Rattle.ladder.proofs.Totals.{takes-vertical, zone-net, total-joined, gross-netted-joined, absolute-total-joined}
-use Rattle.ladder.proofs.Across.{crossed-within}
-use Rattle.ladder.proofs.AddsUp.{three-verticals, zones-add-up, residual-is-whole-net}
+use Rattle.ladder.specs.Position.{Bands, gross, matched, absoluteNet, total, vertical, bandNets}
+use Rattle.ladder.specs.Table.{Percents, AcceptedPercents}
+use Rattle.ladder.specs.Interest.{Zones, zoneNet, zoneNets, matches, allBands}
+use Rattle.ladder.specs.Inner.Steps.{zonesGross}
+use Rattle.ladder.proofs.Matching.{takes-matched, takes-gross}
+use Rattle.ladder.proofs.Totals.{_⊞_, takes-vertical, zone-net, total-joined, bandNets-joined, absoluteNet-total-joined}
+use Rattle.ladder.proofs.AddsUp.{chargeOf, one-sided, three-verticals, zones-add-up, residual-is-whole-net}
+use Rattle.ladder.proofs.Spread.{spread, spread-is, without-first, without-second, without-third}
 
-times : {x y : ℕ} (k : ℕ) → x ≡ y → k * x ≡ k * y
+pub times : {x y : ℕ} (k : ℕ) → x ≡ y → k * x ≡ k * y
 times k h = ap (λ (n : ℕ). k * n) h
 
-times≤ : (k y z : ℕ) {x : ℕ} → x ≤ y + z → k * x ≤ k * y + k * z
+pub times≤ : (k y z : ℕ) {x : ℕ} → x ≤ y + z → k * x ≤ k * y + k * z
 times≤ k y z h = omega (arith, mul-le-mul-left k h)
 
 -- a larger per cent of x is a smaller one and the difference
-split : {small large : ℕ} (x : ℕ) → small ≤ large → large * x ≡ small * x + (large - small) * x
+pub split : {small large : ℕ} (x : ℕ) → small ≤ large → large * x ≡ small * x + (large - small) * x
 split {small} {large} x h =
     let parts : large ≡ small + (large - small) = omega arith in
     omega (arith, ap (λ (n : ℕ). n * x) parts)
 
 -- ---- a zone, with the per cents of its bands, of the zone, and across zones
-zoneCost : (bands zonal across : ℕ) → Bands → List ℕ → ℕ
+pub zoneCost : (bands zonal across : ℕ) → Bands → List ℕ → ℕ
 zoneCost bands zonal across f zone =
-    bands * gross (total f zone) + (zonal - bands) * gross (netted f zone) + (across - zonal) * absolute (total f zone)
+    bands * gross (total f zone) + (zonal - bands) * gross (bandNets f zone) + (across - zonal) * absoluteNet (total f zone)
 
 module _ (bands zonal across : ℕ) (zone : List ℕ) where
   zoneCost-is : (f : Bands) → bands ≤ zonal → zonal ≤ across
-      → zoneCost bands zonal across f zone ≡ 2 * (bands * vertical f zone + zonal * matched (netted f zone)) + across * gross (zoneNet f zone)
+      → zoneCost bands zonal across f zone ≡ 2 * (bands * vertical f zone + zonal * matched (bandNets f zone)) + across * gross (zoneNet f zone)
   unfolding zoneCost
   zoneCost-is f small large =
       omega (
         arith,
         times bands (takes-gross (takes-vertical f zone)),
-        times zonal (takes-gross (takes-rest (netted f zone))),
+        times zonal (takes-gross (takes-matched (bandNets f zone))),
         times (across - zonal) (ap gross (zone-net f zone)),
-        split (gross (netted f zone)) small,
+        split (gross (bandNets f zone)) small,
         split (gross (zoneNet f zone)) large,
       )
 
   zoneCost-joined : (f g : Bands) → zoneCost bands zonal across (f ⊞ g) zone ≤ zoneCost bands zonal across f zone + zoneCost bands zonal across g zone
   unfolding zoneCost
   zoneCost-joined f g =
+      let nets : gross (bandNets (f ⊞ g) zone) ≤ gross (bandNets f zone) + gross (bandNets g zone) = omega (arith, bandNets-joined f g zone) in
       omega (
         arith,
         times bands (ap gross (total-joined f g zone)),
-        times≤ (zonal - bands) _ _ (gross-netted-joined f g zone),
-        times≤ (across - zonal) _ _ (absolute-total-joined f g zone),
-      )
-
--- ---- across zones: an empty zone leaves one pair to be matched, so that all is matched at one per cent
-CrossedAt : ℕ → Percents → Matches → Type 0
-CrossedAt across p x =
-    p .adjacent * x .zones12 + p .adjacent * x .zones23 + p .apart * x .zones13 ≡ across * (x .zones12 + x .zones23 + x .zones13)
-
-module _ (p : Percents) (z : Zones) (f : Bands) where
-  empty-net : (zone : List ℕ) → gross (total f zone) ≡ 0 → gross (zoneNet f zone) ≡ 0
-  empty-net zone h = omega (arith, takes-gross (takes-vertical f zone), takes-gross (takes-rest (netted f zone)))
-
-  -- each match across is at most what either of its zones has
-  crossed≤ : ((matches z f) .zones12 ≤ gross (zoneNet f (z .second)))
-      × ((matches z f) .zones23 ≤ gross (zoneNet f (z .second)))
-      × ((matches z f) .zones13 ≤ gross (zoneNet f (z .first)))
-      × ((matches z f) .zones13 ≤ gross (zoneNet f (z .third)))
-  unfolding matches
-  crossed≤ = let w = crossed-within (zoneNets z f) in (w .zones12≤2, w .zones23≤2, w .zones13≤1, w .zones13≤3)
-
-  adjacent-only : (matches z f) .zones13 ≤ 0 → CrossedAt (p .adjacent) p (matches z f)
-  unfolding CrossedAt
-  adjacent-only h = omega (arith, mul-le-mul-left (p .apart) h, mul-le-mul-left (p .adjacent) h)
-
-  without-first : gross (total f (z .first)) ≡ 0 → CrossedAt (p .adjacent) p (matches z f)
-  without-first h = adjacent-only (omega (arith, empty-net (z .first) h, crossed≤))
-
-  without-third : gross (total f (z .third)) ≡ 0 → CrossedAt (p .adjacent) p (matches z f)
-  without-third h = adjacent-only (omega (arith, empty-net (z .third) h, crossed≤))
-
-  without-second : gross (total f (z .second)) ≡ 0 → CrossedAt (p .apart) p (matches z f)
-  unfolding CrossedAt
-  without-second h =
-      let one-two : (matches z f) .zones12 ≤ 0 = omega (arith, empty-net (z .second) h, crossed≤) in
-      let two-three : (matches z f) .zones23 ≤ 0 = omega (arith, empty-net (z .second) h, crossed≤) in
-      omega (
-        arith,
-        mul-le-mul-left (p .apart) one-two,
-        mul-le-mul-left (p .adjacent) one-two,
-        mul-le-mul-left (p .apart) two-three,
-        mul-le-mul-left (p .adjacent) two-three,
+        times≤ (zonal - bands) _ _ nets,
+        times≤ (across - zonal) _ _ (absoluteNet-total-joined f g zone),
       )
 
 -- ---- the whole ladder
-record Bounds (across : ℕ) (p : Percents) : Type 0 where
-  zone1 : (p .vertical ≤ p .zone1) × (p .zone1 ≤ across)
-  zone2 : (p .vertical ≤ p .zone2) × (p .zone2 ≤ across)
-  zone3 : (p .vertical ≤ p .zone3) × (p .zone3 ≤ across)
-  within : across ≤ 200
-
-module _ (across : ℕ) (p : Percents) (bounds : Bounds across p) (z : Zones) where
-  ladderCost : Bands → ℕ
+module _ (p : Percents) (z : Zones) where
+  pub ladderCost : Bands → ℕ
   ladderCost f =
-      zoneCost (p .vertical) (p .zone1) across f (z .first)
-      + zoneCost (p .vertical) (p .zone2) across f (z .second)
-      + zoneCost (p .vertical) (p .zone3) across f (z .third)
+      zoneCost (p .vertical) (p .zone1) (p .adjacent) f (z .first)
+      + zoneCost (p .vertical) (p .zone2) (p .adjacent) f (z .second)
+      + zoneCost (p .vertical) (p .zone3) (p .adjacent) f (z .third)
 
-  twice-zones : (f : Bands)
-      → 2 * (p .vertical * (matches z f) .vertical + (p .zone1 * (matches z f) .zone1 + p .zone2 * (matches z f) .zone2 + p .zone3 * (matches z f) .zone3)) + across * held (zoneNets z f)
-      ≡ ladderCost f
-  unfolding ladderCost matches
-  twice-zones f =
-      omega (
-        arith,
-        zoneCost-is (p .vertical) (p .zone1) across (z .first) f (bounds .zone1 .0) (bounds .zone1 .1),
-        zoneCost-is (p .vertical) (p .zone2) across (z .second) f (bounds .zone2 .0) (bounds .zone2 .1),
-        zoneCost-is (p .vertical) (p .zone3) across (z .third) f (bounds .zone3 .0) (bounds .zone3 .1),
-        times (p .vertical) (three-verticals z f),
-      )
-
-  twice-crossing : (f : Bands)
-      → 2 * (across * ((matches z f) .zones12 + (matches z f) .zones23 + (matches z f) .zones13)) + 200 * (matches z f) .residual
-      ≡ across * held (zoneNets z f) + (200 - across) * (matches z f) .residual
-  twice-crossing f = omega (arith, times across (zones-add-up z f), split ((matches z f) .residual) (bounds .within))
-
-  twice-charge : (f : Bands) → CrossedAt across p (matches z f) → 2 * chargeOf p z f ≡ ladderCost f + (200 - across) * (matches z f) .residual
-  unfolding CrossedAt
-  twice-charge f crossed = omega (arith, twice-zones f, twice-crossing f)
-
-  ladderCost-joined : (f g : Bands) → ladderCost (f ⊞ g) ≤ ladderCost f + ladderCost g
+  pub ladderCost-joined : (f g : Bands) → ladderCost (f ⊞ g) ≤ ladderCost f + ladderCost g
   unfolding ladderCost
   ladderCost-joined f g =
       omega (
         arith,
-        zoneCost-joined (p .vertical) (p .zone1) across (z .first) f g,
-        zoneCost-joined (p .vertical) (p .zone2) across (z .second) f g,
-        zoneCost-joined (p .vertical) (p .zone3) across (z .third) f g,
+        zoneCost-joined (p .vertical) (p .zone1) (p .adjacent) (z .first) f g,
+        zoneCost-joined (p .vertical) (p .zone2) (p .adjacent) (z .second) f g,
+        zoneCost-joined (p .vertical) (p .zone3) (p .adjacent) (z .third) f g,
       )
 
-residual-joined : (z : Zones) (f g : Bands) → (matches z (f ⊞ g)) .residual ≤ (matches z f) .residual + (matches z g) .residual
-residual-joined z f g =
-    rw (residual-is-whole-net z (f ⊞ g), residual-is-whole-net z f, residual-is-whole-net z g) (absolute-total-joined f g (allBands z))
+  module _ (ok : AcceptedPercents p) (f : Bands) where
+    twice-zones : 2 * (p .vertical * (matches z f) .vertical + (p .zone1 * (matches z f) .zone1 + p .zone2 * (matches z f) .zone2 + p .zone3 * (matches z f) .zone3))
+        + p .adjacent * zonesGross (zoneNets z f)
+        ≡ ladderCost f
+    unfolding ladderCost matches
+    twice-zones =
+        omega (
+          arith,
+          zoneCost-is (p .vertical) (p .zone1) (p .adjacent) (z .first) f (ok .vertical≤1) (ok .zone1≤),
+          zoneCost-is (p .vertical) (p .zone2) (p .adjacent) (z .second) f (ok .vertical≤2) (ok .zone2≤),
+          zoneCost-is (p .vertical) (p .zone3) (p .adjacent) (z .third) f (ok .vertical≤3) (ok .zone3≤),
+          times (p .vertical) (three-verticals z f),
+        )
 
--- where a zone is empty in the sum, it is so in both, and all three ladders are matched across at the same per cent
-joined-at : (across : ℕ) (p : Percents) → Bounds across p → (z : Zones) (zone : List ℕ)
-    → ((f : Bands) → gross (total f zone) ≡ 0 → CrossedAt across p (matches z f))
-    → (f g : Bands) → gross (total (f ⊞ g) zone) ≡ 0
-    → chargeOf p z (f ⊞ g) ≤ chargeOf p z f + chargeOf p z g
-joined-at across p bounds z zone crossed f g none =
-    let both = ap gross (total-joined f g zone) in
-    omega (
-      arith,
-      twice-charge across p bounds z (f ⊞ g) (crossed (f ⊞ g) none),
-      twice-charge across p bounds z f (crossed f (omega arith)),
-      twice-charge across p bounds z g (crossed g (omega arith)),
-      ladderCost-joined across p bounds z f g,
-      times≤ (200 - across) _ _ (residual-joined z f g),
-    )
+    -- whatever zones are used
+    pub twice-charge : 2 * chargeOf p z f ≡ ladderCost f + (200 - p .apart) * (matches z f) .residual + (p .apart - p .adjacent) * spread (zoneNets z f)
+    unfolding matches
+    twice-charge =
+        omega (
+          arith,
+          twice-zones,
+          times (p .adjacent) (zones-add-up z f),
+          times (p .apart - p .adjacent) (spread-is (zoneNets z f) (one-sided z f)),
+          split {small = p .apart} {large = 200} ((matches z f) .residual) (omega arith),
+          split {small = p .adjacent} {large = p .apart} ((matches z f) .residual) (omega arith),
+          split {small = p .adjacent} {large = p .apart} ((matches z f) .zones13) (omega arith),
+        )
 
-pub joined : (p : Percents) → Accepted p → (z : Zones) (f g : Bands) → OneEmpty z (f ⊞ g)
-    → chargeOf p z (f ⊞ g) ≤ chargeOf p z f + chargeOf p z g
-joined p ok z f g (first-empty none) = joined-at (p .adjacent) p (omega arith) z (z .first) (without-first p z) f g none
-joined p ok z f g (second-empty none) = joined-at (p .apart) p (omega arith) z (z .second) (without-second p z) f g none
-joined p ok z f g (third-empty none) = joined-at (p .adjacent) p (omega arith) z (z .third) (without-third p z) f g none
+-- ---- joining
+-- one zone at least has nothing in it
+pub data OneEmpty (z : Zones) (f : Bands) : Type 0 where
+  first-empty : gross (total f (z .first)) ≡ 0 → OneEmpty z f
+  second-empty : gross (total f (z .second)) ≡ 0 → OneEmpty z f
+  third-empty : gross (total f (z .third)) ≡ 0 → OneEmpty z f
+
+empty-net : (f : Bands) (zone : List ℕ) → gross (total f zone) ≡ 0 → gross (zoneNet f zone) ≡ 0
+empty-net f zone none = omega (arith, ap gross (zone-net f zone), takes-gross (takes-matched (total f zone)))
+
+module _ (z : Zones) (f g : Bands) where
+  pub residual-joined : (matches z (f ⊞ g)) .residual ≤ (matches z f) .residual + (matches z g) .residual
+  residual-joined =
+      rw (residual-is-whole-net z (f ⊞ g), residual-is-whole-net z f, residual-is-whole-net z g) (absoluteNet-total-joined f g (allBands z))
+
+  -- a zone that is empty in the sum is so in both, and the spread is then something that is subadditive
+  spread-by : (zone : List ℕ) (size : Bands → ℕ) → ((h : Bands) → gross (total h zone) ≡ 0 → spread (zoneNets z h) ≡ size h)
+      → size (f ⊞ g) ≤ size f + size g → gross (total (f ⊞ g) zone) ≡ 0
+      → spread (zoneNets z (f ⊞ g)) ≤ spread (zoneNets z f) + spread (zoneNets z g)
+  spread-by zone size is sub none =
+      let both = ap gross (total-joined f g zone) in
+      omega (arith, is (f ⊞ g) none, is f (omega arith), is g (omega arith))
+
+  spread-joined : OneEmpty z (f ⊞ g) → spread (zoneNets z (f ⊞ g)) ≤ spread (zoneNets z f) + spread (zoneNets z g)
+  unfolding matches
+  spread-joined (first-empty none) =
+      spread-by (z .first) (λ h. (matches z h) .residual) (λ h e. without-first (zoneNets z h) (one-sided z h) (empty-net h (z .first) e)) residual-joined none
+  spread-joined (second-empty none) =
+      spread-by (z .second) (λ h. absoluteNet (total h (z .first)) + absoluteNet (total h (z .third)))
+      (λ h e. omega (arith, without-second (zoneNets z h) (empty-net h (z .second) e), ap gross (zone-net h (z .first)), ap gross (zone-net h (z .third))))
+      (omega (arith, absoluteNet-total-joined f g (z .first), absoluteNet-total-joined f g (z .third))) none
+  spread-joined (third-empty none) =
+      spread-by (z .third) (λ h. (matches z h) .residual) (λ h e. without-third (zoneNets z h) (one-sided z h) (empty-net h (z .third) e)) residual-joined none
+
+  pub joined : (p : Percents) → AcceptedPercents p → OneEmpty z (f ⊞ g) → chargeOf p z (f ⊞ g) ≤ chargeOf p z f + chargeOf p z g
+  joined p ok one-empty =
+      let twice : 2 * chargeOf p z (f ⊞ g) ≤ 2 * chargeOf p z f + 2 * chargeOf p z g =
+      rw (twice-charge p z ok (f ⊞ g), twice-charge p z ok f, twice-charge p z ok g)
+      (omega (
+        arith,
+        ladderCost-joined p z f g,
+        times≤ (200 - p .apart) _ _ residual-joined,
+        times≤ (p .apart - p .adjacent) _ _ (spread-joined one-empty),
+      )) in
+      omega arith

@@ -1,15 +1,15 @@
--- Longs and shorts exchanged in every band: the interest ladder keeps all its figures, and so its charge under any table.
+-- Longs and shorts exchanged in every band: the interest ladder keeps all its matches, and so its charge under any table.
 -- Assumes nothing.
 use Prim.Native.Nat.{ℕ}
 use mathlib.Core.Path.{_≡_}
 use mathlib.Core.List.{List}
 use native.Mathlib.Nat.{add-comm}
-use Rattle.ladder.specs.Sides.{Sides, Bands, gross, mirrored, mirror, matched, total, netted}
-use Rattle.ladder.specs.Interest.{Zones, Percents, Ladder, against, left, together, zones12, zones23, zones13, crossing, zoneNet, zoneNets, matches, figures, allBands}
-use Rattle.ladder.proofs.Matching.{matched-mirrored, rest-mirrored, absolute-mirrored}
-use Rattle.ladder.proofs.Totals.{total-mirrored, vertical-mirrored, netted-mirrored}
+use Rattle.ladder.specs.Position.{Position, Bands, gross, matched, total, bandNets}
+use Rattle.ladder.specs.Interest.{Zones, Ladder, against, left, together, zones12, zones23, zones13, crossing, zoneNet, zoneNets, matches, allBands}
+use Rattle.ladder.proofs.Matching.{mirrored, matched-mirrored, net-mirrored, absoluteNet-mirrored}
+use Rattle.ladder.proofs.Totals.{mirror, total-mirrored, vertical-mirrored, bandNets-mirrored}
 
-against-mirrored : (a b : Sides) → against (mirrored a) (mirrored b) ≡ against a b
+against-mirrored : (a b : Position) → against (mirrored a) (mirrored b) ≡ against a b
 unfolding against
 against-mirrored a b = add-comm _ _
 
@@ -27,18 +27,18 @@ crossing-mirrored x =
       zones12 = against-mirrored (x .zone1) (x .zone2) i;
       zones23 = against-mirrored two′ (x .zone3) i;
       zones13 = against-mirrored one′ (left (x .zone3) two′) i;
-      residual = absolute-mirrored (together (zones13 (zones23 (zones12 x .left) .left) .left)) i;
+      residual = absoluteNet-mirrored (together (zones13 (zones23 (zones12 x .left) .left) .left)) i;
     }
 
 module _ (f : Bands) where
   zone-gross : (zone : List ℕ) → gross (total (mirror f) zone) ≡ gross (total f zone)
   zone-gross zone = rw total-mirrored (add-comm _ _)
 
-  zone-matched : (zone : List ℕ) → matched (netted (mirror f) zone) ≡ matched (netted f zone)
-  zone-matched zone = rw netted-mirrored (matched-mirrored _)
+  zone-matched : (zone : List ℕ) → matched (bandNets (mirror f) zone) ≡ matched (bandNets f zone)
+  zone-matched zone = rw bandNets-mirrored (matched-mirrored _)
 
   zoneNet-mirrored : (zone : List ℕ) → zoneNet (mirror f) zone ≡ mirrored (zoneNet f zone)
-  zoneNet-mirrored zone = rw netted-mirrored (rest-mirrored _)
+  zoneNet-mirrored zone = rw bandNets-mirrored (net-mirrored _)
 
   crossed-mirrored : (z : Zones) → crossing (zoneNets z (mirror f)) ≡ crossing (zoneNets z f)
   crossed-mirrored z = rw (zoneNet-mirrored (z .first), zoneNet-mirrored (z .second), zoneNet-mirrored (z .third)) (crossing-mirrored (zoneNets z f))
@@ -59,6 +59,3 @@ module _ (f : Bands) where
         zones13 = (crossed≡ i) .zones13;
         residual = (crossed≡ i) .residual;
       }
-
-  pub figures-mirrored : (p : Percents) (z : Zones) → figures p z (mirror f) ≡ figures p z f
-  figures-mirrored p z = rw matches-mirrored

@@ -4,20 +4,22 @@ use Prim.Native.Nat.{ℕ, _+_, _*_, _<_}
 use mathlib.Core.Path.{_≡_, ap, fun-ext}
 use mathlib.Core.List.{List, [], _∷_}
 use native.Mathlib.Omega.{arith}
-use Rattle.ladder.specs.Sides.{Bands, span, gross, total, vertical, netted}
-use Rattle.ladder.specs.Interest.{Zones, Percents, matches, chargeOf, allBands, zones}
-use Rattle.ladder.specs.Rows.{sumOf}
+use Rattle.ladder.specs.Position.{Bands, gross, total, vertical, bandNets}
+use Rattle.sums.specs.Sums.{span, sumOf}
+use Rattle.ladder.specs.Table.{Percents}
+use Rattle.ladder.specs.Interest.{Zones, matches, allBands, zones}
 use Rattle.ladder.proofs.Matching.{Takes, takes-gross, takes-net}
-use Rattle.ladder.proofs.Sums.{slot, slot-within}
+use Rattle.sums.proofs.Spans.{slot, slot-within}
 use Rattle.ladder.proofs.Totals.{takes-vertical}
+use Rattle.ladder.proofs.AddsUp.{chargeOf}
 
 -- in each band the same amount is taken off both sides
 pub record TakesOff (taken : ℕ → ℕ) (before after : Bands) : Type 0 where
   pub each : (k : ℕ) → Takes (taken k) (before k) (after k)
 
 module _ {taken : ℕ → ℕ} {before after : Bands} (t : TakesOff taken before after) where
-  netted-same : (zone : List ℕ) → netted before zone ≡ netted after zone
-  netted-same zone = ap (λ (g : Bands). total g zone) (fun-ext (λ k. takes-net (t .each k)))
+  bandNets-same : (zone : List ℕ) → bandNets before zone ≡ bandNets after zone
+  bandNets-same zone = ap (λ (g : Bands). total g zone) (fun-ext (λ k. takes-net (t .each k)))
 
   total-taken : (zone : List ℕ) → Takes (sumOf taken zone) (total before zone) (total after zone)
   unfolding total sumOf
@@ -26,7 +28,7 @@ module _ {taken : ℕ → ℕ} {before after : Bands} (t : TakesOff taken before
 
   vertical-taken : (zone : List ℕ) → vertical before zone ≡ sumOf taken zone + vertical after zone
   vertical-taken zone =
-      omega (arith, total-taken zone, takes-vertical before zone, takes-vertical after zone, ap gross (netted-same zone))
+      omega (arith, total-taken zone, takes-vertical before zone, takes-vertical after zone, ap gross (bandNets-same zone))
 
   -- the ladder's sums before, from those after
   pub matches-taken : (z : Zones)
@@ -44,7 +46,7 @@ module _ {taken : ℕ → ℕ} {before after : Bands} (t : TakesOff taken before
       }
   unfolding matches
   matches-taken z =
-      rw (netted-same (z .first), netted-same (z .second), netted-same (z .third))
+      rw (bandNets-same (z .first), bandNets-same (z .second), bandNets-same (z .third))
       (cc (takes-gross (total-taken (allBands z)), vertical-taken (allBands z)))
 
   pub charge-taken : (p : Percents) (z : Zones) → chargeOf p z before ≡ p .vertical * sumOf taken (allBands z) + chargeOf p z after

@@ -1,19 +1,26 @@
 // The ladders of one group, and charges on nets: longs against shorts. Knows no file.
 pub mod bands;
-pub mod commodities;
-pub mod sides;
+pub mod positions;
 pub mod zones;
 
-use crate::commodities::Carried;
-use crate::sides::Sides;
+use crate::positions::Position;
 use crate::zones::Matches;
 ghost use mathlib.Core.Path.{_≡_};
+ghost use mathlib.Core.List.{_∷_};
 ghost use Prim.Native.Nat.{_+_, _*_, _≤_, max};
-ghost use Rattle.ladder.specs.Sides.{limit, gross, total, bands};
-ghost use Rattle.ladder.specs.Interest.{Accepted, charge, matchSum, allBands, zones};
-ghost use Rattle.ladder.specs.Commodity.{commodityBands, commodityLimit};
-ghost use Rattle.ladder.specs.Steps.{InterestOf, CommodityOf, NetsOf};
-ghost use Rattle.ladder.specs.Nets.{absoluteNets, shorthand, groups};
+ghost use lib.ListN.{length};
+ghost use Rattle.sums.specs.Sums.{span};
+ghost use Rattle.ladder.specs.Position.{gross, total};
+ghost use Rattle.ladder.specs.Table.{AcceptedPercents};
+ghost use Rattle.ladder.specs.Interest.{charge, allBands, zones};
+ghost use Rattle.ladder.specs.Commodity.{commodityBands};
+ghost use Rattle.ladder.specs.Nets.{absoluteNets, shorthand};
+ghost use Rattle.ladder.specs.Inner.Steps.{limit, commodityLimit, bands, InterestOf, CommodityOf, NetsOf};
+
+// The bands of a ladder: in interest, and in commodities.
+pub const BANDS: usize = 15;
+
+pub const COMMODITY_BANDS: usize = 7;
 
 // The per cents of the interest ladder's steps: adjacent zones are 1-2 and 2-3, zones apart 1-3.
 pub struct Percents {
@@ -27,15 +34,7 @@ pub struct Percents {
 
 // The figures of the interest ladder call; the charge in mils.
 pub struct InterestFigures {
-    pub gross: u64,
-    pub vertical: u64,
-    pub zone1: u64,
-    pub zone2: u64,
-    pub zone3: u64,
-    pub zones12: u64,
-    pub zones23: u64,
-    pub zones13: u64,
-    pub residual: u64,
+    pub matches: Matches,
     pub charge: u64,
 }
 
@@ -58,7 +57,7 @@ fn share(per: u64, amount: u64) -> u64
 impl Percents {
     // The charge on a ladder's matches and residual, in mils.
     fn charge(self, m: Matches) -> u64
-        requires { ⌜ Accepted self × (matchSum m + m .residual ≤ limit) ⌝ }
+        requires { ⌜ AcceptedPercents self × (m .vertical + m .zone1 + m .zone2 + m .zone3 + m .zones12 + m .zones23 + m .zones13 + m .residual ≤ limit) ⌝ }
         ensures { λ r. ⌜ r ≡ charge self m ⌝ }
     {
         let bands = share(self.vertical, m.vertical);
@@ -73,57 +72,60 @@ impl Percents {
 }
 
 // The interest ladder of one currency, from the weighted longs and shorts of its bands.
-pub fn interest(longs: &[u64; 15], shorts: &[u64; 15], percents: Percents) -> InterestFigures
-    requires { ⌜ Accepted percents ⌝ }
+pub fn interest(longs: &[u64; BANDS], shorts: &[u64; BANDS], percents: Percents) -> InterestFigures
+    requires { ⌜ AcceptedPercents percents ⌝ }
     requires { ⌜ gross (total (bands (now longs) (now shorts)) (allBands zones)) ≤ limit ⌝ }
     ensures { λ r. ⌜ InterestOf percents (bands (now (longs .entry)) (now (shorts .entry))) r ⌝ }
 {
     let first = bands::zone_of(longs, shorts, 0, 4);
     let second = bands::zone_of(longs, shorts, 4, 3);
     let third = bands::zone_of(longs, shorts, 7, 8);
-    let m = zones::combine(first, second, third);
+    let matches = zones::combine(first, second, third);
     InterestFigures {
-        gross: m.gross,
-        vertical: m.vertical,
-        zone1: m.zone1,
-        zone2: m.zone2,
-        zone3: m.zone3,
-        zones12: m.zones12,
-        zones23: m.zones23,
-        zones13: m.zones13,
-        residual: m.residual,
-        charge: percents.charge(m),
+        matches,
+        charge: percents.charge(matches),
     }
 }
 
-// The ladder of one commodity, from the longs and shorts of its bands.
-pub fn commodity(longs: &[u64; 7], shorts: &[u64; 7]) -> CommodityFigures
+// The ladder of one commodity, from the longs and shorts of its bands: from the nearest, the whole net goes to the next.
+// 1.5% of each side of a match, 0.6% of what was carried, 15% of the net after the last band.
+pub fn commodity(
+    longs: &[u64; COMMODITY_BANDS],
+    shorts: &[u64; COMMODITY_BANDS],
+) -> CommodityFigures
     requires { ⌜ gross (total (bands (now longs) (now shorts)) commodityBands) ≤ commodityLimit ⌝ }
     ensures { λ r. ⌜ CommodityOf (bands (now (longs .entry)) (now (shorts .entry))) r ⌝ }
 {
-    let none = Sides { long: 0, short: 0 };
-    let mut carried = Carried {
-        matches: 0,
-        carried: 0,
-        net: none,
-    };
-    let mut band = 0;
-    while band < 7 {
-        carried = carried.to_band(Sides {
+    let mut matches: u64 = 0;
+    let mut carried: u64 = 0;
+    let mut position = Position { long: 0, short: 0 };
+    let mut band: usize = 0;
+    while band < COMMODITY_BANDS {
+        let step = position.carry(Position {
             long: longs[band],
             short: shorts[band],
         });
+        carried += position.long + position.short;
+        matches += step.matched;
+        position = step.left;
         band += 1;
     }
-    carried.figures()
+    let residual = position.long + position.short;
+    CommodityFigures {
+        matches,
+        carried,
+        residual,
+        charge: 2 * (15000 * matches) + 6000 * carried + 150000 * residual,
+    }
 }
 
-// Equity: the absolute nets of the groups, summed.
-pub fn absolute_nets(longs: &[u64; 32], shorts: &[u64; 32]) -> u64
-    requires { ⌜ gross (total (bands (now longs) (now shorts)) groups) ≤ limit ⌝ }
-    ensures { λ r. ⌜ NetsOf (bands (now (longs .entry)) (now (shorts .entry))) absoluteNets r ⌝ }
+// Equity: the absolute nets of so many groups, summed.
+pub fn absolute_nets(longs: &[u64], shorts: &[u64], many: usize) -> u64
+    requires { ⌜ (many ≤ length (now longs)) × (many ≤ length (now shorts)) ⌝ }
+    requires { ⌜ gross (total (bands (now longs) (now shorts)) (span 0 many)) ≤ limit ⌝ }
+    ensures { λ r. ⌜ NetsOf (bands (now (longs .entry)) (now (shorts .entry))) (span 0 many) (absoluteNets (span 0 many)) r ⌝ }
 {
-    let nets = bands::zone_of(longs, shorts, 0, 32).nets;
+    let nets = bands::zone_of(longs, shorts, 0, many).nets;
     nets.long + nets.short
 }
 
@@ -133,13 +135,15 @@ fn greater(a: u64, b: u64) -> u64
     if a < b { b } else { a }
 }
 
-// Foreign exchange: the greater of the summed net longs and the summed net shorts, and gold's absolute net.
-pub fn shorthand(longs: &[u64; 32], shorts: &[u64; 32]) -> u64
-    requires { ⌜ gross (total (bands (now longs) (now shorts)) groups) ≤ limit ⌝ }
-    ensures { λ r. ⌜ NetsOf (bands (now (longs .entry)) (now (shorts .entry))) shorthand r ⌝ }
+// Foreign exchange: the greater of the summed net longs and the summed net shorts of so many currencies, and the absolute net of
+// gold, which is the group before them.
+pub fn shorthand(longs: &[u64], shorts: &[u64], many: usize) -> u64
+    requires { ⌜ (1 + many ≤ length (now longs)) × (1 + many ≤ length (now shorts)) ⌝ }
+    requires { ⌜ gross (total (bands (now longs) (now shorts)) (0 ∷ span 1 many)) ≤ limit ⌝ }
+    ensures { λ r. ⌜ NetsOf (bands (now (longs .entry)) (now (shorts .entry))) (0 ∷ span 1 many) (shorthand (span 1 many)) r ⌝ }
 {
-    let nets = bands::zone_of(longs, shorts, 1, 31).nets;
-    let gold = Sides {
+    let nets = bands::zone_of(longs, shorts, 1, many).nets;
+    let gold = Position {
         long: longs[0],
         short: shorts[0],
     }.net();

@@ -11,22 +11,25 @@ use Rattle.join.specs.declared.Joined.{Joined}
 unfoldable pub refusalEntries : Refusal → List ℕ
 refusalEntries refusal = refusal .number ∷ refusal .row ∷ refusal .book ∷ []
 
--- the refusal, the six charges, the total (document 01, The book file)
-unfoldable pub reportEntries : Report → List ℕ
-reportEntries report =
-    refusalEntries (report .refusal) ++
-    (report .interest .specific ∷ report .interest .general ∷
+-- the six charges and the total (document 01, The book file)
+unfoldable pub reportFigures : Report → List ℕ
+reportFigures report =
+    report .interest .specific ∷ report .interest .general ∷
     report .equity .specific ∷ report .equity .general ∷
-    report .exchange ∷ report .commodity ∷ report .total ∷ [])
+    report .exchange ∷ report .commodity ∷ report .total ∷ []
+
+-- the refusal, and then the figures
+unfoldable pub reportEntries : Report → List ℕ
+reportEntries report = refusalEntries (report .refusal) ++ reportFigures report
 
 -- the refusal, gross, the match sums, the residual, the charge (document 01, Interest: bands and zones)
 unfoldable pub interestEntries : InterestLadder → List ℕ
 interestEntries ladder =
     refusalEntries (ladder .refusal) ++
-    (ladder .figures .gross ∷ ladder .figures .vertical ∷
-    ladder .figures .zone1 ∷ ladder .figures .zone2 ∷ ladder .figures .zone3 ∷
-    ladder .figures .zones12 ∷ ladder .figures .zones23 ∷ ladder .figures .zones13 ∷
-    ladder .figures .residual ∷ ladder .figures .charge ∷ [])
+    (ladder .figures .matches .gross ∷ ladder .figures .matches .vertical ∷
+    ladder .figures .matches .zone1 ∷ ladder .figures .matches .zone2 ∷ ladder .figures .matches .zone3 ∷
+    ladder .figures .matches .zones12 ∷ ladder .figures .matches .zones23 ∷ ladder .figures .matches .zones13 ∷
+    ladder .figures .matches .residual ∷ ladder .figures .charge ∷ [])
 
 -- the refusal, matches, amounts carried, the residual, the charge (document 01, The commodities ladder)
 unfoldable pub commodityEntries : CommodityLadder → List ℕ

@@ -2,6 +2,7 @@
 ghost use mathlib.Core.Path.{_≡_};
 ghost use lib.ListN.{length as len};
 ghost use Rattle.book.specs.Refusals.{refusalOf};
+ghost use Rattle.ladder.specs.Table.{standardTable};
 ghost use Rattle.charges.specs.Report.{reportOf, interestLadderOf, commodityLadderOf};
 ghost use Rattle.join.specs.Joined.{joinedOf, joinOutput};
 ghost use Rattle.market_risk.specs.Entries.{refusalEntries, reportEntries, interestEntries, commodityEntries, joinedEntries};
@@ -22,7 +23,7 @@ pub extern "C" fn market_risk_check(book: &[u8], out: &mut [u64; 3])
 // The report of a book.
 #[no_mangle]
 pub extern "C" fn market_risk_charge(book: &[u8], out: &mut [u64; 10])
-    ensures { λ r. ⌜ now (out .exit) ≡ reportEntries (reportOf (now (book .entry))) ⌝ }
+    ensures { λ r. ⌜ now (out .exit) ≡ reportEntries (reportOf standardTable (now (book .entry))) ⌝ }
 {
     let report = charges::charge(book);
     *out = [
@@ -42,22 +43,22 @@ pub extern "C" fn market_risk_charge(book: &[u8], out: &mut [u64; 10])
 // The interest ladder of a currency.
 #[no_mangle]
 pub extern "C" fn market_risk_interest_ladder(book: &[u8], group: usize, out: &mut [u64; 13])
-    ensures { λ r. ⌜ now (out .exit) ≡ interestEntries (interestLadderOf (now (book .entry)) group) ⌝ }
+    ensures { λ r. ⌜ now (out .exit) ≡ interestEntries (interestLadderOf standardTable (now (book .entry)) group) ⌝ }
 {
     let ladder = charges::interest_ladder(book, group);
     *out = [
         ladder.refusal.number as u64,
         ladder.refusal.row as u64,
         ladder.refusal.book as u64,
-        ladder.figures.gross,
-        ladder.figures.vertical,
-        ladder.figures.zone1,
-        ladder.figures.zone2,
-        ladder.figures.zone3,
-        ladder.figures.zones12,
-        ladder.figures.zones23,
-        ladder.figures.zones13,
-        ladder.figures.residual,
+        ladder.figures.matches.gross,
+        ladder.figures.matches.vertical,
+        ladder.figures.matches.zone1,
+        ladder.figures.matches.zone2,
+        ladder.figures.matches.zone3,
+        ladder.figures.matches.zones12,
+        ladder.figures.matches.zones23,
+        ladder.figures.matches.zones13,
+        ladder.figures.matches.residual,
         ladder.figures.charge,
     ];
 }

@@ -40,15 +40,15 @@ pub fn charge(book: &[u8]) {
 pub fn interest_ladder(book: &[u8], group: usize) {
     let ladder = charges::interest_ladder(book, group);
     start(b"interest-ladder", ladder.refusal);
-    figure(ladder.figures.gross);
-    figure(ladder.figures.vertical);
-    figure(ladder.figures.zone1);
-    figure(ladder.figures.zone2);
-    figure(ladder.figures.zone3);
-    figure(ladder.figures.zones12);
-    figure(ladder.figures.zones23);
-    figure(ladder.figures.zones13);
-    figure(ladder.figures.residual);
+    figure(ladder.figures.matches.gross);
+    figure(ladder.figures.matches.vertical);
+    figure(ladder.figures.matches.zone1);
+    figure(ladder.figures.matches.zone2);
+    figure(ladder.figures.matches.zone3);
+    figure(ladder.figures.matches.zones12);
+    figure(ladder.figures.matches.zones23);
+    figure(ladder.figures.matches.zones13);
+    figure(ladder.figures.matches.residual);
     figure(ladder.figures.charge);
     end();
 }

@@ -1,3 +1,4 @@
+-- `book::body` meets its contract: a part that is cut at the end of the book.
 use Prim.Native.Nat.{_+_, _*_}
 use Rattle.book.specs.Counts.{bodyBy}
 use Rattle.book.proofs.Cutting.{cut}
@@ -8,7 +9,7 @@ use Rattle.book.proofs.body.Tie as tie
 returns : tie.Need-returns
 unfolding bodyBy
 returns c =
-    let start = c .before .before .before .before .before .before .before in
+    let start = c .before .before .before .before .before .before in
     let parts = cut (start .args .book .now) (8 + 16 * c .before .before .before .before .rows-before .result) (16 * c .before .before .before .class-rows .result) in
     cc
 

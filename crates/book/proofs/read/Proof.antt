@@ -1,40 +1,40 @@
+-- `book::read` meets its contract: the contents are refused, or they pass and the search gives the refusal of the rows.
 use mathlib.Core.Path.{_≡_, sym, _∙_}
-use borrow.Author.Tests.{eq-eqb, ne-eqb}
-use Rattle.book.specs.Refusals.{contentsRefusal, refusalOf, refused}
-use Rattle.book.specs.Parts.{handedOut, contentsOf}
-use Rattle.book.proofs.Acceptance.{contents-sized}
 use borrow.Author.Needs.{needs}
+use Rattle.book.specs.Refusals.{contentsRefusal}
+use Rattle.book.proofs.Acceptance.{contents-sized}
+use Rattle.book.proofs.Handing.{refused-checked, passed-checked, read-of}
 use Rattle.book.proofs.read.Statement.{statement}
 use Rattle.book.proofs.read.Tie as tie
 
 returns : tie.Need-returns
-unfolding contentsOf handedOut refusalOf refused
 returns c =
-    let number = c .before .before .contents-refusal .result in
-    simp (← c .before .before .contents-refusal .ensures, ne-eqb number 0 (c .before .if1 .taken), c .no-counts .ensures)
+    let at-refused = c .before .before in
+    let at-number = at-refused .before .before in
+    let checked = refused-checked _ _ (at-number .contents-refusal .ensures) (at-refused .before .if1 .taken) in
+    read-of _ (cc)
+
+-- the contents passed
+passed : (c : tie.Else1) → contentsRefusal (c .before .before .before .args .book .now) ≡ 0
+passed c = sym (c .before .contents-refusal .ensures) ∙ c .if1 .left
 
 counts-requires : tie.Need-counts-requires
-counts-requires c κs =
-    let s = c .before .before .before .args .book .now in
-    contents-sized s (sym (c .before .contents-refusal .ensures) ∙ c .if1 .left) .contents
+counts-requires c κs = contents-sized _ (passed c) .contents
 
 first-refused-requires : tie.Need-first-refused-requires
-first-refused-requires c κs =
-    let s = c .before .before .before .before .args .book .now in
-    let sized = contents-sized s (sym (c .before .before .contents-refusal .ensures) ∙ c .before .if1 .left) in
-    (c .counts .ensures, sized .few, sized .sized)
+first-refused-requires c κs = (c .counts .ensures, contents-sized _ (passed (c .before)))
 
 returns-2 : tie.Need-returns-2
-unfolding contentsOf refusalOf
 returns-2 c =
-    let s = c .before .before .before .before .before .before .args .book .now in
-    let passed : contentsRefusal s ≡ 0 = sym (c .before .before .before .before .contents-refusal .ensures) ∙ c .before .before .before .if1 .left in
-    simp (eq-eqb _ _ passed) (cc)
+    let checked = passed-checked _ (passed (c .before .before .before)) in
+    read-of _ (cc)
 
 pub read-spec : {M : Type 1} → statement M
 read-spec =
     tie.close
     (tie.spec
+    (λ c. search needs)
+    (λ c. search needs)
     (λ c. search needs)
     (λ c. search needs)
     returns

@@ -1,3 +1,4 @@
+-- `charges::refused_report` meets its contract: it is the definition's record.
 use mathlib.Core.Path.{refl}
 use Rattle.charges.specs.Report.{refusedReport}
 use Rattle.charges.proofs.refused_report.Statement.{statement}

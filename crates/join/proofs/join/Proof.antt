@@ -8,16 +8,14 @@ use lib.ListN.{length}
 use Rattle.book.specs.declared.Refusal.{Refusal}
 use Rattle.book.specs.Counts.{contentsSize, classes}
 use Rattle.join.specs.Joined.{joinedBody, joinRefusal}
-use Rattle.join.proofs.Settling.{Read, Joins, joins, own-counts, read-few, settled-read}
+use Rattle.join.proofs.Settling.{Read, Joins, joins, own-counts, settled-read}
 use Rattle.join.proofs.Outcome.{bodies-size, refused-outcome, joined-outcome}
 use borrow.Author.Needs.{needs}
 use Rattle.join.proofs.join.Statement.{statement}
 use Rattle.join.proofs.join.Tie as tie
 
 add-requires : tie.Need-add-requires
-add-requires c κs =
-    let args = c .before .before .before .before .before .args in
-    rw (c .before .read .ensures, c .read2 .ensures) (omega (arith, read-few (args .a .now), read-few (args .b .now)))
+add-requires c κs = omega (arith, c .before .read .ensures .few, c .read2 .ensures .few)
 
 abbrev start : tie.After-add → tie.Start
 start c = c .before .before .before .before .before .before
@@ -35,7 +33,9 @@ ok : (c : tie.Else1) → (let s = start (c .before .before .before .before) in J
 ok c = joins _ _ _ (sym (ap (λ (r : Refusal). r .number) (refusal (c .before .before))) ∙ c .if1 .left)
 
 -- and the output has room for the contents and the bodies
-room : (c : tie.Else1) → (let s = start (c .before .before .before .before) in contentsSize + length (flatMap (joinedBody (s .args .a .now) (s .args .b .now)) classes) ≤ length (s .args .out .now))
+room : (c : tie.Else1)
+    → (let args = start (c .before .before .before .before) .args in
+    contentsSize + length (flatMap (joinedBody (args .a .now) (args .b .now)) classes) ≤ length (args .out .now))
 room c = rw bodies-size (ok c .fits)
 
 returns : tie.Need-returns

@@ -1,10 +1,9 @@
--- `interest` meets its contract. Assumes nothing.
-use mathlib.Core.Path.{_∙_}
+-- `ladder::interest` meets its contract: the three zones, gathered, make the ladder.
 use native.Mathlib.Omega.{arith}
-use Rattle.ladder.specs.Sides.{bands}
+use Rattle.ladder.specs.Inner.Steps.{bands}
 use Rattle.ladder.specs.Interest.{zones}
 use Rattle.ladder.proofs.AddsUp.{three-grosses}
-use Rattle.ladder.proofs.Gathering.{matches-combined, matches-within, interest-in-steps}
+use Rattle.ladder.proofs.Gathering.{interest-matches, matches-within, interest-in-steps}
 use Rattle.ladder.proofs.interest.Statement.{statement}
 use Rattle.ladder.proofs.interest.Tie as tie
 
@@ -30,27 +29,19 @@ combine-requires c κs =
 
 charge-requires : tie.Need-charge-requires
 charge-requires c κs =
-    let start = c .before .before .before .before .before .before .before .before .before .before in
-    let f = bands (start .args .longs .now) (start .args .shorts .now) in
-    let is =
-    c .combine .ensures
-    ∙ matches-combined zones f
-    (c .before .before .before .before .before .before .before .zone-of .ensures .is)
-    (c .before .before .before .before .zone-of2 .ensures .is)
-    (c .before .zone-of3 .ensures .is) in
-    (start .pre .0, omega (arith, matches-within zones f is))
+    let third = c .before in
+    let second = third .before .before .before in
+    let first = second .before .before .before in
+    let is = interest-matches (first .zone-of .ensures) (second .zone-of2 .ensures) (third .zone-of3 .ensures) (c .combine .ensures) in
+    (first .before .before .before .pre .0, omega (arith, matches-within zones _ is))
 
 returns : tie.Need-returns
 returns c =
-    let start = c .before .before .before .before .before .before .before .before .before .before .before in
-    let f = bands (start .args .longs .now) (start .args .shorts .now) in
-    let is =
-    c .before .combine .ensures
-    ∙ matches-combined zones f
-    (c .before .before .before .before .before .before .before .before .zone-of .ensures .is)
-    (c .before .before .before .before .before .zone-of2 .ensures .is)
-    (c .before .before .zone-of3 .ensures .is) in
-    interest-in-steps (start .args .percents) (start .pre .0) f is (c .charge .ensures)
+    let third = c .before .before in
+    let second = third .before .before .before in
+    let first = second .before .before .before in
+    let is = interest-matches (first .zone-of .ensures) (second .zone-of2 .ensures) (third .zone-of3 .ensures) (c .before .combine .ensures) in
+    interest-in-steps _ (first .before .before .before .pre .0) _ is (c .charge .ensures)
 
 pub interest-spec : {M : Type 1} → statement M
 interest-spec =

@@ -1,4 +1,4 @@
--- `share` meets its contract: a per cent up to 100 of an amount is at most a hundred times it. Assumes nothing.
+-- `ladder::share` meets its contract: a per cent up to 100 of an amount is at most a hundred times it.
 use native.Mathlib.Nat.{mul-le-mul-right}
 use native.Mathlib.Omega.{arith}
 use Rattle.ladder.proofs.share.Statement.{statement}

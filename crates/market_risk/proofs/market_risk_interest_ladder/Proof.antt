@@ -1,3 +1,4 @@
+-- `market_risk_interest_ladder` meets its contract: the entries are those of the ladder.
 use mathlib.Core.Path.{ap}
 use borrow.Author.Needs.{needs}
 use Rattle.market_risk.specs.Entries.{refusalEntries, interestEntries}

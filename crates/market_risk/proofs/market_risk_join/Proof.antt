@@ -1,3 +1,4 @@
+-- `market_risk_join` meets its contract: the entries are those of the answer, and the output is join's.
 use mathlib.Core.Path.{ap}
 use borrow.Author.Needs.{needs}
 use Rattle.market_risk.specs.Entries.{refusalEntries, joinedEntries}

@@ -1,3 +1,4 @@
+-- `vectors::join_into` is safe: the output is a part of the buffer.
 use borrow.Author.Needs.{needs}
 use native.Mathlib.Omega.{arith}
 use lib.ListN.{length-take}

@@ -1,3 +1,4 @@
+-- `vectors::main` ends: it takes as many turns as it was told.
 use borrow.Author.Needs.{needs}
 use Rattle.vectors.proofs.main.Statement.{statement}
 use Rattle.vectors.proofs.main.Tie as tie

@@ -1,3 +1,4 @@
+-- `book::Counts::class_rows` meets its contract: the match on the class is the definition's.
 use native.Mathlib.Omega.{arith}
 use borrow.Author.Tests.{ne-eqb}
 use Rattle.book.specs.Counts.{countIn}

@@ -1,3 +1,4 @@
+-- `book::Counts::rows` meets its contract: four counts of 16 bits are added.
 use native.Mathlib.Omega.{arith}
 use Rattle.book.specs.Counts.{rowCount}
 use borrow.Author.Needs.{needs}

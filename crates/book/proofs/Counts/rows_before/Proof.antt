@@ -1,3 +1,4 @@
+-- `book::Counts::rows_before` meets its contract: the counts of the classes before, added.
 use native.Mathlib.Omega.{arith}
 use Rattle.book.specs.Counts.{rowsBefore, countIn, rowCount}
 use Rattle.book.proofs.Placing.{before-none, before-all}

@@ -1,3 +1,4 @@
+-- `book::fields::u16_at` meets its contract: two bytes, which fit sixteen bits.
 use Prim.Native.Nat.{ℕ, _+_, _<_}
 use lib.ListN.{getD}
 use mathlib.Core.Path.{refl}

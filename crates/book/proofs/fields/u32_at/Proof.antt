@@ -1,3 +1,4 @@
+-- `book::fields::u32_at` meets its contract: two fields of sixteen bits.
 use Rattle.book.specs.Fields.{u32At}
 use borrow.Author.Needs.{needs}
 use Rattle.book.proofs.fields.u32_at.Statement.{statement}

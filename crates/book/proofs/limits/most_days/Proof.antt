@@ -1,3 +1,4 @@
+-- `book::limits::most_days` meets its contract: the match on the class is the definition's.
 use mathlib.Core.Bool.{or-true}
 use mathlib.Core.Logic.{inl, inr, ⊎-elim}
 use borrow.Author.Tests.{eq-eqb, ne-eqb}

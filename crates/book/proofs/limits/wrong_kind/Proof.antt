@@ -1,3 +1,4 @@
+-- `book::limits::wrong_kind` meets its contract: each range of classes has its own kinds.
 use native.Mathlib.Omega.{arith}
 use borrow.Author.Tests.{lt-ltb, le-ltb, le-leb, lt-leb}
 use Rattle.book.specs.Refusals.{leastKind, mostKind}

@@ -1,10 +1,12 @@
+-- `book::rows::row_at` meets its contract: a row of the part, or zeros past the last.
 use mathlib.Core.Path.{sym, ap, _∙_}
 use mathlib.Core.List.{[]}
 use Prim.Native.Nat.{_≤_}
 use native.Mathlib.Omega.{arith}
 use lib.ListN.{length, List·getD-eq-default}
 use Rattle.book.specs.Fields.{u16At, u32At}
-use Rattle.book.specs.Rows.{rowOf, rowsIn, decode}
+use Rattle.book.specs.Rows.{rowsIn, decode}
+use Rattle.book.specs.Inner.Reading.{rowOf}
 use Rattle.book.proofs.Chunks.{chunk-at, row-count}
 use borrow.Author.Needs.{needs}
 use Rattle.book.proofs.rows.row_at.Statement.{statement}

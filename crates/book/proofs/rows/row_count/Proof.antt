@@ -1,3 +1,4 @@
+-- `book::rows::row_count` meets its contract: a row is sixteen bytes.
 use mathlib.Core.Path.{sym}
 use Rattle.book.proofs.Chunks.{row-count}
 use Rattle.book.proofs.rows.row_count.Statement.{statement}

@@ -1,7 +1,9 @@
+-- `charges::bands::band_in` meets its contract: the match on the class is the definition's.
 use mathlib.Core.Path.{refl}
 use native.Mathlib.Omega.{arith}
 use borrow.Author.Tests.{ne-eqb}
-use Rattle.charges.specs.Bands.{ascending, commodityBand, bandIn}
+use Rattle.charges.specs.Inner.Tables.{ascending}
+use Rattle.charges.specs.Bands.{commodityBand, bandIn}
 use borrow.Author.Needs.{needs}
 use Rattle.charges.proofs.bands.band_in.Statement.{statement}
 use Rattle.charges.proofs.bands.band_in.Tie as tie

@@ -1,3 +1,4 @@
+-- `charges::bands::first_band` meets its contract: in a column that ascends the first band is a count.
 use Prim.Native.Nat.{_<_}
 -- `charges::bands::first_band` meets its contract: the loop counts the last days below the days.
 -- Assumes nothing.

@@ -1,7 +1,9 @@
+-- `charges::bands::interest_band` meets its contract: the column goes by the coupon, and both ascend.
 use mathlib.Core.Path.{refl}
 use native.Mathlib.Omega.{arith}
 use borrow.Author.Tests.{lt-ltb, le-ltb}
-use Rattle.charges.specs.Bands.{ascending, interestBand}
+use Rattle.charges.specs.Inner.Tables.{ascending}
+use Rattle.charges.specs.Bands.{interestBand}
 use borrow.Author.Needs.{needs}
 use Rattle.charges.proofs.bands.interest_band.Statement.{statement}
 use Rattle.charges.proofs.bands.interest_band.Tie as tie

@@ -1,5 +1,6 @@
+-- `charges::bands::slot_in` meets its contract: a group up to 31 and a band below 15 have a slot below 480.
 use native.Mathlib.Omega.{arith}
-use Rattle.charges.specs.Tables.{slotIn}
+use Rattle.charges.specs.Inner.Tables.{slotIn}
 use borrow.Author.Needs.{needs}
 use Rattle.charges.proofs.bands.slot_in.Statement.{statement}
 use Rattle.charges.proofs.bands.slot_in.Tie as tie

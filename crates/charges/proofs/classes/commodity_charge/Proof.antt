@@ -1,6 +1,5 @@
+-- `charges::classes::commodity_charge` meets its contract: what the tables of the rows cost is what the rows cost.
 use mathlib.Core.Path.{_∙_}
-use lib.ListN.{length-map}
-use Rattle.charges.proofs.Legs.{every-decoded}
 use Rattle.charges.proofs.Costs.{all-fit, commodity-sum}
 use borrow.Author.Needs.{needs}
 use Rattle.charges.proofs.classes.commodity_charge.Statement.{statement}
@@ -10,7 +9,7 @@ commodity-general-requires : tie.Need-commodity-general-requires
 commodity-general-requires c κs =
     let at-sums = c .before .before in
     let start = at-sums .before .before .before .before in
-    all-fit 4 _ _ _ _ (at-sums .tally .ensures) (every-decoded (start .pre .clean)) (rw length-map (start .pre .few))
+    all-fit 4 _ _ _ _ (at-sums .tally .ensures) (start .pre .clean) (start .pre .few)
 
 returns : tie.Need-returns
 returns c =

@@ -1,9 +1,7 @@
+-- `charges::classes::commodity_figures` meets its contract: the commodity's bands in the tables are its ladder.
 use mathlib.Core.Path.{_∙_}
 use Prim.Native.Nat.{_<_}
 use native.Mathlib.Omega.{arith}
-use lib.ListN.{length-map}
-use Rattle.charges.specs.Charges.{commodityFiguresOf}
-use Rattle.charges.proofs.Legs.{every-decoded}
 use Rattle.charges.proofs.Costs.{fits, commodity-is}
 use borrow.Author.Needs.{needs}
 use Rattle.charges.proofs.classes.commodity_figures.Statement.{statement}
@@ -14,10 +12,9 @@ commodity-figures-requires c κs =
     let at-sums = c .before .before in
     let start = at-sums .before .before .before .before in
     let group : start .args .group < 32 = omega (arith, start .pre .1) in
-    (group, fits 4 _ _ _ _ (at-sums .tally .ensures) (every-decoded (start .pre .0 .clean)) (rw length-map (start .pre .0 .few)) (start .args .group) group)
+    (group, fits 4 _ _ _ _ (at-sums .tally .ensures) (start .pre .0 .clean) (start .pre .0 .few) (start .args .group) group)
 
 returns : tie.Need-returns
-unfolding commodityFiguresOf
 returns c =
     let sums = c .before .before .before in
     let start = sums .before .before .before .before in

@@ -1,10 +1,8 @@
-use mathlib.Core.Path.{ap, sym, _∙_}
+-- `charges::classes::equity_risk` meets its contract: the markets' slots in the tables are their positions.
+use mathlib.Core.Path.{ap, _∙_}
 use Prim.Native.Nat.{ℕ, _*_}
-use lib.ListN.{length-map}
-use Rattle.charges.specs.Charges.{eightPerCent, equityRisk, equityGeneral}
-use Rattle.charges.proofs.Legs.{every-decoded}
+use Rattle.charges.specs.Charges.{eightPerCent, specificCharge, equityRisk, equityGeneral}
 use Rattle.charges.proofs.Slots.{equity-flat}
-use Rattle.charges.proofs.Rates.{specific-total}
 use Rattle.charges.proofs.Costs.{groups-fit, absolutes-are}
 use borrow.Author.Needs.{needs}
 use Rattle.charges.proofs.classes.equity_risk.Statement.{statement}
@@ -14,14 +12,14 @@ equity-general-requires : tie.Need-equity-general-requires
 equity-general-requires c κs =
     let at-sums = c .before .before in
     let start = at-sums .before .before .before .before in
-    groups-fit 2 equity-flat _ _ _ _ (at-sums .tally .ensures) (every-decoded (start .pre .clean)) (rw length-map (start .pre .few))
+    groups-fit 2 equity-flat _ _ _ _ (at-sums .tally .ensures) (start .pre .clean) (start .pre .few)
 
 returns : tie.Need-returns
-unfolding equityRisk equityGeneral
+unfolding equityRisk equityGeneral specificCharge
 returns c =
     let sums = c .before .before .before in
     let start = sums .before .before .before .before in
-    let specific = sums .tally .ensures .is-specific ∙ sym (specific-total 2 (every-decoded (start .pre .clean))) in
+    let specific = sums .tally .ensures .is-specific in
     let general = c .equity-general .ensures ∙ ap (λ (n : ℕ). eightPerCent * n) (absolutes-are 2 equity-flat _ _ _ _ (sums .tally .ensures)) in
     cc
 

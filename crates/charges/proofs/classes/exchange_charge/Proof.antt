@@ -1,8 +1,7 @@
+-- `charges::classes::exchange_charge` meets its contract: the currencies' slots in the tables are their positions.
 use mathlib.Core.Path.{ap, _∙_}
 use Prim.Native.Nat.{ℕ, _*_}
-use lib.ListN.{length-map}
 use Rattle.charges.specs.Charges.{eightPerCent, exchangeGeneral}
-use Rattle.charges.proofs.Legs.{every-decoded}
 use Rattle.charges.proofs.Slots.{exchange-flat}
 use Rattle.charges.proofs.Costs.{groups-fit, shorthand-is}
 use borrow.Author.Needs.{needs}
@@ -13,7 +12,7 @@ exchange-general-requires : tie.Need-exchange-general-requires
 exchange-general-requires c κs =
     let at-sums = c .before .before in
     let start = at-sums .before .before .before .before in
-    groups-fit 3 exchange-flat _ _ _ _ (at-sums .tally .ensures) (every-decoded (start .pre .clean)) (rw length-map (start .pre .few))
+    groups-fit 3 exchange-flat _ _ _ _ (at-sums .tally .ensures) (start .pre .clean) (start .pre .few)
 
 returns : tie.Need-returns
 unfolding exchangeGeneral

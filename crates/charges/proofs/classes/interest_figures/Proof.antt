@@ -1,10 +1,9 @@
+-- `charges::classes::interest_figures` meets its contract: the currency's bands in the tables are its ladder.
 use mathlib.Core.Path.{_∙_}
 use Prim.Native.Nat.{_<_}
 use native.Mathlib.Omega.{arith}
-use lib.ListN.{length-map}
-use Rattle.charges.specs.Charges.{interestFiguresOf}
-use Rattle.charges.proofs.Legs.{every-decoded}
 use Rattle.charges.proofs.Costs.{fits, interest-is}
+use Rattle.ladder.specs.Table.{standardTable}
 use borrow.Author.Needs.{needs}
 use Rattle.charges.proofs.classes.interest_figures.Statement.{statement}
 use Rattle.charges.proofs.classes.interest_figures.Tie as tie
@@ -14,14 +13,13 @@ interest-figures-requires c κs =
     let at-sums = c .before .before in
     let start = at-sums .before .before .before .before in
     let group : start .args .group < 32 = omega (arith, start .pre .1) in
-    (group, fits 1 _ _ _ _ (at-sums .tally .ensures) (every-decoded (start .pre .0 .clean)) (rw length-map (start .pre .0 .few)) (start .args .group) group)
+    (group, fits 1 _ _ _ _ (at-sums .tally .ensures) (start .pre .0 .clean) (start .pre .0 .few) (start .args .group) group)
 
 returns : tie.Need-returns
-unfolding interestFiguresOf
 returns c =
     let sums = c .before .before .before in
     let start = sums .before .before .before .before in
-    c .interest-figures .ensures ∙ interest-is _ _ _ _ (sums .tally .ensures) (start .args .group) (omega (arith, start .pre .1))
+    c .interest-figures .ensures ∙ interest-is standardTable _ _ _ _ (sums .tally .ensures) (start .args .group) (omega (arith, start .pre .1))
 
 pub interest-figures-spec : {M : Type 1} → statement M
 interest-figures-spec = tie.close (tie.spec (λ c. search needs) interest-figures-requires returns)

@@ -1,11 +1,12 @@
+-- `charges::general::equity_general` meets its contract: the arrays are the positions of the markets.
 use mathlib.Core.Path.{_∙_, ap}
 use Prim.Native.Nat.{ℕ, _*_}
 use native.Mathlib.Omega.{arith}
-use Rattle.ladder.specs.Sides.{bands}
-use Rattle.ladder.proofs.Agreeing.{Agree, absolutes-agree}
+use Rattle.ladder.specs.Inner.Steps.{bands}
+use Rattle.ladder.proofs.Agreeing.{Agree, gross-agree, absolutes-agree}
 use Rattle.charges.specs.Charges.{eightPerCent}
-use Rattle.charges.specs.Tables.{tableGroups}
-use Rattle.charges.proofs.Summing.{arrays-agree, gross-agree}
+use Rattle.charges.specs.Inner.Tables.{tableGroups}
+use Rattle.charges.proofs.Slots.{arrays-agree}
 use borrow.Author.Needs.{needs}
 use Rattle.charges.proofs.general.equity_general.Statement.{statement}
 use Rattle.charges.proofs.general.equity_general.Tie as tie
@@ -16,10 +17,10 @@ read : (c : tie.After-group-shorts) → Agree 32 (bands (c .before .before .befo
 read c = arrays-agree 32 _ _ _ _ (c .before .before .before .group-sums .ensures) (c .before .before .group-sums2 .ensures)
 
 absolute-nets-requires : tie.Need-absolute-nets-requires
-absolute-nets-requires c κs = omega (arith, gross-agree 32 (read c), c .before .before .before .before .pre)
+absolute-nets-requires c κs = omega (arith, gross-agree (read c), c .before .before .before .before .pre)
 
 mul-result : tie.Need-mul-result
-mul-result c = omega (arith, c .absolute-nets .ensures .within, gross-agree 32 (read (c .before)), c .before .before .before .before .before .pre)
+mul-result c = omega (arith, c .absolute-nets .ensures .within, gross-agree (read (c .before)), c .before .before .before .before .before .pre)
 
 returns : tie.Need-returns
 returns c = ap (λ (n : ℕ). eightPerCent * n) (c .absolute-nets .ensures .is ∙ absolutes-agree (read (c .before)))
@@ -27,4 +28,4 @@ returns c = ap (λ (n : ℕ). eightPerCent * n) (c .absolute-nets .ensures .is �
 pub equity-general-spec : {M : Type 1} → statement M
 equity-general-spec =
     tie.close
-    (tie.spec (λ c. search needs) (λ c. search needs) absolute-nets-requires mul-result returns)
+    (tie.spec (λ c. search needs) (λ c. search needs) (λ c. search needs) (λ c. search needs) absolute-nets-requires mul-result returns)

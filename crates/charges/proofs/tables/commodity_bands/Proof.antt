@@ -1,9 +1,10 @@
+-- `charges::tables::commodity_bands` meets its contract: the array is filled band by band.
 use mathlib.Core.Path.{refl}
 use Prim.Native.Nat.{_+_, _*_, _-_}
 use native.Mathlib.Omega.{arith}
 use borrow.Author.Needs.{needs}
 use lib.ListN.{getD}
-use Rattle.charges.proofs.Filling.{Filled, filled-none, filled-next, filled-all}
+use Rattle.sums.proofs.Filling.{Filled, filled-none, filled-next, filled-all}
 use Rattle.charges.proofs.tables.commodity_bands.Statement.{statement}
 use Rattle.charges.proofs.tables.commodity_bands.Tie as tie
 

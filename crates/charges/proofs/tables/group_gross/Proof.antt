@@ -1,10 +1,13 @@
+-- `charges::tables::group_gross` meets its contract: the loop keeps the sum of the bands so far.
 use mathlib.Core.Path.{refl, sym, _∙_}
 use Prim.Native.Nat.{_+_, _-_, _≤_}
 use native.Mathlib.Omega.{arith}
 use borrow.Author.Needs.{needs}
-use Rattle.ladder.specs.Sides.{gross, span}
-use Rattle.charges.specs.Tables.{tableBands, mostGross}
-use Rattle.charges.proofs.Summing.{Summed, summed-none, summed-next, summed-all, sum-room, gross-sum}
+use Rattle.ladder.specs.Position.{gross}
+use Rattle.sums.specs.Sums.{span}
+use Rattle.charges.specs.Inner.Tables.{tableBands, mostGross}
+use Rattle.sums.proofs.Spans.{Summed, summed-none, summed-next, summed-all, sum-room}
+use Rattle.ladder.proofs.Totals.{gross-sum}
 use Rattle.charges.proofs.tables.group_gross.Statement.{statement}
 use Rattle.charges.proofs.tables.group_gross.Tie as tie
 
@@ -16,7 +19,9 @@ abbrev μ-loop : tie.MeasureT-loop
 
 -- a band more is within the whole
 room : (c : tie.After-gross2 Inv-loop μ-loop)
-    → c .before .before .before .loop .gross + gross (tableBands (c .before .before .before .before .args .longs .now) (c .before .before .before .before .args .shorts .now) (c .before .before .before .before .args .group) (c .before .before .before .loop .k)) ≤ mostGross
+    → (let at-loop = c .before .before .before in
+    let a = at-loop .before .args in
+    at-loop .loop .gross + gross (tableBands (a .longs .now) (a .shorts .now) (a .group) (at-loop .loop .k)) ≤ mostGross)
 room c =
     let at-loop = c .before .before .before in
     let start = at-loop .before in

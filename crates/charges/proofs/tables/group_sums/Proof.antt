@@ -1,9 +1,10 @@
+-- `charges::tables::group_sums` meets its contract: the array is filled group by group.
 use mathlib.Core.Path.{refl}
 use Prim.Native.Nat.{_*_, _-_}
 use native.Mathlib.Omega.{arith}
 use borrow.Author.Needs.{needs}
 use lib.ListN.{getD}
-use Rattle.charges.proofs.Filling.{Filled, filled-none, filled-next, filled-all}
+use Rattle.sums.proofs.Filling.{Filled, filled-none, filled-next, filled-all}
 use Rattle.charges.proofs.tables.group_sums.Statement.{statement}
 use Rattle.charges.proofs.tables.group_sums.Tie as tie
 

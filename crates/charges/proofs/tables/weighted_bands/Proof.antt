@@ -1,15 +1,16 @@
+-- `charges::tables::weighted_bands` meets its contract: the array is filled band by band, each sum times its weight.
 use mathlib.Core.Path.{refl}
 use Prim.Native.Nat.{_+_, _*_, _-_}
 use native.Mathlib.Omega.{arith}
 use borrow.Author.Needs.{needs}
 use lib.ListN.{getD}
-use Rattle.charges.specs.Bands.{weightOf}
-use Rattle.charges.proofs.Filling.{Filled, filled-none, filled-next, filled-all}
+use Rattle.ladder.specs.Table.{standardTable, weightIn}
+use Rattle.sums.proofs.Filling.{Filled, filled-none, filled-next, filled-all}
 use Rattle.charges.proofs.tables.weighted_bands.Statement.{statement}
 use Rattle.charges.proofs.tables.weighted_bands.Tie as tie
 
 abbrev Inv-loop : tie.InvT-loop
-Inv-loop table group weights out₀ k₀ out k = Filled 15 (λ j. weightOf j * getD table (15 * group + j) 0) out k
+Inv-loop table group weights out₀ k₀ out k = Filled 15 (λ j. weightIn standardTable j * getD table (15 * group + j) 0) out k
 
 abbrev μ-loop : tie.MeasureT-loop
 μ-loop table group weights out₀ k₀ out k = 15 - k
@@ -18,11 +19,11 @@ loop-holds : tie.Need-loop-holds Inv-loop μ-loop
 loop-holds c = filled-none _ _ _ refl
 
 mul-out-4 : tie.Need-mul-out-4 Inv-loop μ-loop
-unfolding weightOf
+unfolding weightIn
 mul-out-4 c = omega (arith, c .before .before .before .pre .1 (c .before .before .loop .k) (omega arith))
 
 loop-again : tie.Need-loop-again Inv-loop μ-loop
-unfolding weightOf
+unfolding weightIn
 loop-again c = filled-next _ _ _ _ _ (c .before .before .loop .inv) (omega arith) refl
 
 returns : tie.Need-returns Inv-loop μ-loop

@@ -1,3 +1,4 @@
+-- `charges::weights::equity_weight` meets its contract: the match on the kind is the definition's.
 use native.Mathlib.Omega.{arith}
 use borrow.Author.Tests.{ne-eqb}
 use Rattle.charges.specs.Weights.{equityWeight}

@@ -1,3 +1,4 @@
+-- `charges::weights::qualifying_weight` meets its contract: the ranges of days are the definition's.
 use native.Mathlib.Omega.{arith}
 use borrow.Author.Tests.{le-leb, lt-leb}
 use Rattle.charges.specs.Weights.{qualifyingWeight}

@@ -1,3 +1,4 @@
+-- `charges::weights::specific_charge` meets its contract: no weight is over 800, so that the product fits.
 use Prim.Native.Nat.{_+_, _*_, _≤_}
 use native.Mathlib.Nat.{mul-le-mul-right}
 use native.Mathlib.Omega.{arith}

@@ -1,3 +1,4 @@
+-- `charges::weights::specific_weight` meets its contract: the match on the class is the definition's.
 use native.Mathlib.Omega.{arith}
 use borrow.Author.Tests.{ne-eqb}
 use Rattle.charges.specs.Weights.{specificWeight}

@@ -8,9 +8,9 @@ use borrow.Author.Needs.{needs}
 use lib.ListN.{length, length-append}
 use Rattle.book.specs.declared.Counts.{Counts}
 use Rattle.book.specs.Counts.{countsOf, bodyBy, bodyOf}
-use Rattle.join.specs.Written.{written}
+use Rattle.layout.specs.Written.{written}
 use Rattle.join.specs.Joined.{joinedBody}
-use Rattle.join.proofs.Classwise.{Writes, begins, piece-room, writes-next, all-written}
+use Rattle.layout.proofs.Classwise.{Writes, begins, piece-room, writes-next, all-written}
 use Rattle.join.proofs.bodies.write_bodies.Statement.{statement}
 use Rattle.join.proofs.bodies.write_bodies.Tie as tie
 
@@ -28,8 +28,8 @@ unfolding joinedBody bodyOf
 parts-joined a b first second class part-a part-b e f p q = cc
 
 pair : (c : tie.After-body2 Inv-loop μ-loop)
-    → c .before .body .result .now ++ c .body2 .result .now
-    ≡ joinedBody (c .before .before .before .before .before .before .before .args .a .now) (c .before .before .before .before .before .before .before .args .b .now) (c .before .before .before .loop .class)
+    → (let args = c .before .before .before .before .before .before .before .args in
+    c .before .body .result .now ++ c .body2 .result .now ≡ joinedBody (args .a .now) (args .b .now) (c .before .before .before .loop .class))
 pair c =
     let start = c .before .before .before .before .before .before .before in
     parts-joined (start .args .a .now) (start .args .b .now) _ _ _ _ _ (start .pre .0) (start .pre .1) (c .before .body .ensures) (c .body2 .ensures)

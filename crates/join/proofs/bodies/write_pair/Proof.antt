@@ -4,8 +4,8 @@ use mathlib.Core.Path.{refl, ap, _∙_}
 use mathlib.Core.List.{List}
 use Prim.Native.Nat.{ℕ, _+_}
 use lib.ListN.{length}
-use Rattle.join.specs.Written.{written}
-use Rattle.join.proofs.Writing.{written-after}
+use Rattle.layout.specs.Written.{written}
+use Rattle.layout.proofs.Writing.{written-after}
 use borrow.Author.Needs.{needs}
 use Rattle.join.proofs.bodies.write_pair.Statement.{statement}
 use Rattle.join.proofs.bodies.write_pair.Tie as tie

@@ -1,3 +1,4 @@
+-- `vectors::input::read_book` meets its contract: both ways of reading stay within the buffer.
 use borrow.Author.Needs.{needs}
 use native.Mathlib.Omega.{arith}
 use lib.ListN.{length-append, length-take}

@@ -1,3 +1,4 @@
+-- `vectors::input::read_runs` meets its contract: what was read never passes the end of the book.
 use Prim.Native.Nat.{_≤_, _-_}
 use mathlib.Core.Path.{_≡_, refl}
 use borrow.Author.Needs.{needs}

@@ -1,3 +1,4 @@
+-- `vectors::input::repeat` is safe: each byte of the part is written once.
 use Prim.Native.Nat.{_≤_, _-_}
 use mathlib.Core.Path.{_≡_}
 use borrow.Author.Needs.{needs}

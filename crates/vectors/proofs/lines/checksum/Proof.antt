@@ -1,3 +1,4 @@
+-- `vectors::lines::checksum` is safe: the sum stays below its modulus, and the loop ends.
 use Prim.Native.Nat.{_≤_, _<_, _-_}
 use mathlib.Core.Path.{_≡_}
 use borrow.Author.Needs.{needs}

@@ -1,4 +1,4 @@
--- `Ladder::cross` meets its contract. Assumes nothing.
+-- `ladder::zones::Ladder::cross` meets its contract: each step begins with what the one before it left.
 use Rattle.ladder.proofs.Stepping.{cross-in-steps}
 use borrow.Author.Needs.{needs}
 use Rattle.ladder.proofs.zones.Ladder.cross.Statement.{statement}

@@ -1,4 +1,4 @@
--- `Ladder::residual` meets its contract. Assumes nothing.
+-- `ladder::zones::Ladder::residual` meets its contract: the three zones put together, and then their net.
 use native.Mathlib.Omega.{arith}
 use Rattle.ladder.proofs.Stepping.{residual-in-steps}
 use borrow.Author.Needs.{needs}

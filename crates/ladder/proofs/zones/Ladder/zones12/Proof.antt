@@ -1,4 +1,4 @@
--- `Ladder::zones12` meets its contract. Assumes nothing.
+-- `ladder::zones::Ladder::zones12` meets its contract: zone 3 stays as it was.
 use borrow.Author.Needs.{needs}
 use Rattle.ladder.specs.Interest.{zones12}
 use native.Mathlib.Omega.{arith}

@@ -1,4 +1,4 @@
--- `Ladder::zones13` meets its contract. Assumes nothing.
+-- `ladder::zones::Ladder::zones13` meets its contract: zone 2 stays as it was.
 use borrow.Author.Needs.{needs}
 use Rattle.ladder.specs.Interest.{zones13}
 use native.Mathlib.Omega.{arith}

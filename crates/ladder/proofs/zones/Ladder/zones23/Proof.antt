@@ -1,4 +1,4 @@
--- `Ladder::zones23` meets its contract. Assumes nothing.
+-- `ladder::zones::Ladder::zones23` meets its contract: zone 1 stays as it was.
 use borrow.Author.Needs.{needs}
 use Rattle.ladder.specs.Interest.{zones23}
 use native.Mathlib.Omega.{arith}

@@ -1,0 +1,3 @@
+-- What only inner functions promise.
+pub mod Tables
+pub mod Answers

@@ -1,0 +1,49 @@
+-- What zone 2's matches leave of zones 1 and 3, which bears more than adjacent zones do; and what it comes to where a zone is empty.
+-- Assumes nothing.
+use Prim.Native.Nat.{ℕ, _+_, _-_, _*_, min}
+use mathlib.Core.Path.{_≡_}
+use native.Mathlib.Omega.{arith}
+use Rattle.ladder.specs.Position.{Position, gross, matched, absoluteNet}
+use Rattle.ladder.specs.Interest.{Ladder, against, left, zones12, zones23, crossing}
+use Rattle.ladder.proofs.Matching.{takes-matched, takes-gross, net-sides}
+use Rattle.ladder.proofs.Across.{OneSided, crossing-adds-up, zones13≤}
+
+-- ---- zone 2 against zones 1 and 3 together
+abbrev longs : Ladder → Position
+longs x = record { long = x .zone1 .long + x .zone3 .long; short = x .zone2 .short }
+
+abbrev shorts : Ladder → Position
+shorts x = record { long = x .zone1 .short + x .zone3 .short; short = x .zone2 .long }
+
+-- what zone 2's matches leave
+pub spread : Ladder → ℕ
+spread x = absoluteNet (longs x) + absoluteNet (shorts x)
+
+in-turn : (a b c : ℕ) → min a b + min (b - min b a) c ≡ min (a + c) b
+in-turn a b c = omega arith
+
+module _ (x : Ladder) where
+  middle : (crossing x) .zones12 + (crossing x) .zones23 ≡ matched (longs x) + matched (shorts x)
+  unfolding crossing zones12 zones23 against left matched
+  middle =
+      omega (
+        arith,
+        in-turn (x .zone1 .long) (x .zone2 .short) (x .zone3 .long),
+        in-turn (x .zone1 .short) (x .zone2 .long) (x .zone3 .short),
+      )
+
+  pub spread-is : OneSided x → 2 * (crossing x) .zones13 + (crossing x) .residual ≡ spread x
+  unfolding spread
+  spread-is s =
+      omega (arith, crossing-adds-up x s, middle, takes-gross (takes-matched (longs x)), takes-gross (takes-matched (shorts x)))
+
+  -- ---- where a zone is empty
+  pub without-first : OneSided x → gross (x .zone1) ≡ 0 → spread x ≡ (crossing x) .residual
+  without-first s none = omega (arith, spread-is s, zones13≤ x)
+
+  pub without-second : gross (x .zone2) ≡ 0 → spread x ≡ gross (x .zone1) + gross (x .zone3)
+  unfolding spread
+  without-second none = omega (arith, net-sides (longs x), net-sides (shorts x))
+
+  pub without-third : OneSided x → gross (x .zone3) ≡ 0 → spread x ≡ (crossing x) .residual
+  without-third s none = omega (arith, spread-is s, zones13≤ x)

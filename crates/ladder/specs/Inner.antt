@@ -1,0 +1,2 @@
+-- What only the code's inner functions promise.
+pub mod Steps
