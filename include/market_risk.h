@@ -10,10 +10,22 @@
  * When the number is not 0, every other entry is 0. Charges are in mils, thousandths of
  * the currency unit; weighted positions are amounts (thousands) times basis points.
  *
- * Pointers must not be null, also where the length is 0, and must hold as many bytes or
- * entries as is said. A result must not overlap a book, nor the output of a join either
- * of its books. No call keeps a pointer, allocates, or has state of its own, so calls may
- * run at once.
+ * Pointers must hold as many bytes or entries as is said. A null pointer with length 0 is
+ * a file of no bytes, or an output without room; a result is never null. A result must not
+ * overlap a book, nor the output of a join either of its books. No call keeps a pointer,
+ * allocates, or has state of its own, so calls may run at once.
+ *
+ * The stack that a call takes, in bytes, measured on x86-64 and rounded up. No call
+ * recurses, so no book makes it more.
+ *
+ *     market_risk_check              200
+ *     market_risk_charge            9000
+ *     market_risk_interest_ladder   8500
+ *     market_risk_commodity_ladder  8000
+ *     market_risk_join               500
+ *
+ * All but check and join call memset. Where the loader binds it at its first call, that
+ * call takes some 3000 bytes more, once.
  */
 #ifndef MARKET_RISK_H
 #define MARKET_RISK_H

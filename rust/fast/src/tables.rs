@@ -1,42 +1,58 @@
-//! Bands by days, as tables.
+//! Bands and weights, as tables.
 
 /// The weights of the interest bands, in basis points.
-pub const WEIGHTS: [u64; 15] = [
-    0, 20, 40, 70, 125, 175, 225, 275, 325, 375, 450, 525, 600, 800, 1250,
+pub static WEIGHTS: [u64; 16] = [
+    0, 20, 40, 70, 125, 175, 225, 275, 325, 375, 450, 525, 600, 800, 1250, 0,
 ];
 
-/// Days from here on fall in the last band of every ladder.
-pub const LAST: usize = 7_201;
-
-/// The interest bands by days: coupons of 300 and more, then those below.
-pub static INTEREST: [[u8; LAST + 1]; 2] = [
-    bands(&[
-        30, 90, 180, 360, 720, 1080, 1440, 1800, 2520, 3600, 5400, 7200,
-    ]),
-    bands(&[
-        30, 90, 180, 360, 684, 1008, 1296, 1548, 2052, 2628, 3348, 3816, 4320, 7200,
-    ]),
+/// The last days of the interest bands: coupons of 300 and more, then those below.
+const HIGH: [usize; 12] = [
+    30, 90, 180, 360, 720, 1080, 1440, 1800, 2520, 3600, 5400, 7200,
+];
+const LOW: [usize; 14] = [
+    30, 90, 180, 360, 684, 1008, 1296, 1548, 2052, 2628, 3348, 3816, 4320, 7200,
 ];
 
-/// The commodity bands by days.
-pub static COMMODITY: [u8; LAST + 1] = bands(&[30, 90, 180, 360, 720, 1080]);
-
-/// Specific weights of interest rows, by kind and by days up to 180, 720 and over.
-pub const SPECIFIC: [[u64; 3]; 3] = [[0; 3], [25, 100, 160], [800; 3]];
+/// Specific weights of interest rows: four for each kind, by days up to 180, 720 and over.
+pub static SPECIFIC: [u64; 16] = [0, 0, 0, 0, 0, 0, 0, 0, 25, 100, 160, 0, 800, 800, 800, 0];
 
 /// Specific weights of equity rows, by kind.
-pub const EQUITY: [u64; 3] = [800, 400, 200];
+pub static EQUITY: [u64; 4] = [0, 800, 400, 200];
 
-/// The band of each day, from the bands' last days.
-const fn bands(last_days: &[usize]) -> [u8; LAST + 1] {
-    let mut table = [0; LAST + 1];
-    let (mut day, mut band) = (0, 0);
-    while day <= LAST {
-        while band < last_days.len() && last_days[band] < day {
-            band += 1;
-        }
-        table[day] = band as u8;
-        day += 1;
+/// Days share a cell by sixes: every last day is a multiple of 6.
+const CELLS: usize = 65_535 / 6 + 2;
+
+/// A number for each cell.
+type Cells = [u8; CELLS];
+
+/// The cell of some days.
+#[inline(always)]
+pub fn cell(days: u16) -> usize {
+    (usize::from(days) + 5) / 6
+}
+
+/// The interest band of each cell and, from bit 4 on, the days' place in `SPECIFIC`.
+pub static INTEREST: [Cells; 2] = [cells(&HIGH, &[180, 720]), cells(&LOW, &[180, 720])];
+
+/// The commodity band of each cell.
+pub static COMMODITY: Cells = cells(&[30, 90, 180, 360, 720, 1080], &[]);
+
+/// How many of the ends lie before each cell: of the first ones, and 16 times the second.
+const fn cells(low: &[usize], high: &[usize]) -> Cells {
+    let mut table = [0; CELLS];
+    let mut cell = 0;
+    while cell < CELLS {
+        table[cell] = (before(low, 6 * cell) + 16 * before(high, 6 * cell)) as u8;
+        cell += 1;
     }
     table
+}
+
+/// How many of the ends are below some days.
+const fn before(ends: &[usize], days: usize) -> usize {
+    let mut at = 0;
+    while at < ends.len() && ends[at] < days {
+        at += 1;
+    }
+    at
 }

@@ -1,24 +1,18 @@
-//! The fast pass gives what the second calculation gives.
+//! The fast calls give what the second calculation gives, entry by entry and byte by byte.
+
+mod common;
 
 use books::damage::damage;
 use books::generate::{book, Shape};
-use books::Random;
+use books::{Book, Random, Row};
+use common::{compare, compare_join};
 
-/// The second calculation's report in the fast one's layout.
-fn second_report(book: &[u8]) -> [u64; 10] {
-    let report = second::charge(book);
-    [
-        report.refusal.number,
-        report.refusal.row,
-        report.refusal.book,
-        report.interest_specific,
-        report.interest_general,
-        report.equity_specific,
-        report.equity_general,
-        report.exchange,
-        report.commodity,
-        report.total,
-    ]
+/// A random book, damaged up to twice.
+fn random_book(random: &mut Random, rows: usize) -> Vec<u8> {
+    let shape = Shape::new(random, rows);
+    let mut bytes = book(random, &shape).encode().unwrap();
+    (0..random.below(3)).for_each(|_| damage(random, &mut bytes));
+    bytes
 }
 
 #[test]
@@ -28,14 +22,80 @@ fn random_and_damaged_books() {
         let mut random = Random::of_case(11, case);
         let rows = match case % 500 {
             0 => 4_000,
-            _ => random.below(20) as usize,
+            _ => random.below(40) as usize,
         };
-        let shape = Shape::new(&mut random, rows);
-        let mut bytes = book(&mut random, &shape).encode().unwrap();
-        (0..random.below(3)).for_each(|_| damage(&mut random, &mut bytes));
-        let expected = second_report(&bytes);
-        assert_eq!(fast::charge(&bytes), expected, "case {case}");
-        seen[expected[0] as usize] += 1;
+        let bytes = random_book(&mut random, rows);
+        compare(&bytes, random.below(34) as usize);
+        seen[second::check(&bytes).number as usize] += 1;
     }
     assert!(seen.iter().all(|count| *count > 0), "{seen:?}");
+}
+
+#[test]
+fn random_and_damaged_joins() {
+    let mut seen = [0; 13];
+    for case in 0..6_000 {
+        let mut random = Random::of_case(12, case);
+        let most = if case % 100 == 0 { 3_000 } else { 12 };
+        let (rows_a, rows_b) = (random.below(most), random.below(most));
+        let a = random_book(&mut random, rows_a as usize);
+        let b = random_book(&mut random, rows_b as usize);
+        let whole = (a.len() + b.len()).max(8) - 8;
+        let room = (whole + random.below(4) as usize).saturating_sub(1);
+        seen[compare_join(&a, &b, room) as usize] += 1;
+    }
+    let (none, ladder) = (seen[0], seen[10]);
+    assert!(none > 0 && ladder == 0, "{seen:?}");
+    let others = seen[1..10].iter().chain(&seen[11..]);
+    assert!(others.clone().all(|count| *count > 0), "{seen:?}");
+}
+
+/// Any accepted row of a class.
+fn plain(class: usize) -> Row {
+    Row {
+        group: 3,
+        kind: u8::from(class < 2),
+        long: 7,
+        ..Row::default()
+    }
+}
+
+/// Nine rows of one class, one of them changed: in a block of four, and past the blocks.
+fn changed(class: usize, place: usize, row: Row) -> Vec<u8> {
+    let mut book = Book::default();
+    book.classes[class] = vec![plain(class); 9];
+    book.classes[class][place] = row;
+    book.encode().unwrap()
+}
+
+#[test]
+fn every_value_of_each_field_in_each_class() {
+    let amounts = [0, 1, 1_000_000_000, 1_000_000_001, 1 << 31, u32::MAX];
+    let numbers = [0, 1, 299, 300, 10_000, 10_001, 36_000, 36_001, u16::MAX];
+    for class in 0..4 {
+        let base = plain(class);
+        let bytes = 0..=u8::MAX;
+        let mut rows: Vec<Row> = bytes.clone().map(|group| base.with_group(group)).collect();
+        rows.extend(bytes.map(|kind| base.with_kind(kind)));
+        rows.extend(numbers.map(|days| base.with_days(days)));
+        rows.extend(numbers.map(|coupon| base.with_coupon(coupon)));
+        rows.extend(
+            amounts
+                .iter()
+                .flat_map(|long| amounts.map(|short| base.with_sides(*long, short))),
+        );
+        for row in rows {
+            (0..9).for_each(|place| compare(&changed(class, place, row), 3));
+        }
+    }
+}
+
+#[test]
+fn every_day_of_the_bands() {
+    for days in (0..=7_210).chain([35_999, 36_000, 36_001, u16::MAX]) {
+        for (class, kind, coupon) in [(0, 2, 299), (0, 2, 300), (3, 0, 0)] {
+            let row = plain(class).with_kind(kind).with_coupon(coupon);
+            compare(&changed(class, 5, row.with_days(days)), 3);
+        }
+    }
 }

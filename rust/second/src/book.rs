@@ -1,4 +1,7 @@
-//! The book file: its rows, and who is told no.
+//! The book file: its rows, and who is told no. The file and the refusals are document
+//! 01's own; the Amendment has neither.
+
+use crate::kinds;
 
 /// The four classes of rows, in file order.
 #[derive(Clone, Copy, Debug, PartialEq, Eq)]
@@ -30,7 +33,7 @@ pub struct Row {
 }
 
 impl Row {
-    /// The row's amount, whichever side it is on.
+    /// The row's amount, whichever side it is on, at current value (Introduction I, 5).
     pub fn amount(&self) -> i128 {
         self.long + self.short
     }
@@ -98,16 +101,15 @@ fn decode(class: Class, bytes: &[u8]) -> Row {
 /// The number of the first fault of a row, 4 to 9, or 0.
 fn row_fault(row: &Row) -> u64 {
     const LIMIT: i128 = 1_000_000_000;
-    let (kinds, last_day, last_coupon) = match row.class {
-        Class::Interest => (1..=3, 36_000, 10_000),
-        Class::Equity => (1..=3, 0, 0),
-        Class::Exchange => (0..=0, 0, 0),
-        Class::Commodity => (0..=0, 36_000, 0),
+    let (last_day, last_coupon) = match row.class {
+        Class::Interest => (36_000, 10_000),
+        Class::Equity | Class::Exchange => (0, 0),
+        Class::Commodity => (36_000, 0),
     };
     let one_side = (row.long == 0) != (row.short == 0);
     let faults = [
         (4, row.group > 31),
-        (5, !kinds.contains(&row.kind)),
+        (5, !kinds::of_class(row.class).contains(&row.kind)),
         (6, row.days > last_day),
         (7, row.coupon > last_coupon),
         (8, !one_side),

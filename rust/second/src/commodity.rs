@@ -1,4 +1,4 @@
-//! The commodities ladder.
+//! The commodities ladder: the maturity ladder approach (A.4, 7 to 10).
 
 use crate::bands::commodity_band;
 use crate::book::{read, Class, Refusal, Row};
@@ -14,7 +14,7 @@ pub struct CommodityLadder {
     pub charge: u64,
 }
 
-/// The longs and the shorts of one band of one commodity.
+/// The longs and the shorts of one band of one commodity (A.4, 8).
 fn sides(rows: &[Row], group: usize, band: usize) -> (i128, i128) {
     rows.iter()
         .filter(|row| row.class == Class::Commodity && row.group == group)
@@ -24,7 +24,7 @@ fn sides(rows: &[Row], group: usize, band: usize) -> (i128, i128) {
         })
 }
 
-/// The ladder of one commodity, from the nearest band outwards.
+/// The ladder of one commodity, from the nearest band outwards (A.4, 8 and 9).
 fn ladder(rows: &[Row], group: usize) -> CommodityLadder {
     let (mut matches, mut carried, mut net) = (0, 0, 0i128);
     for band in 0..7 {
@@ -34,7 +34,8 @@ fn ladder(rows: &[Row], group: usize) -> CommodityLadder {
         matches += long.min(short);
         net = long - short;
     }
-    // 1.5% on both sides of a match, 0.6% a step carried, 15% of what is left.
+    // 1.5% on both sides of a match (A.4, 8; C.3), 0.6% a step carried and 15% of what is
+    // left (A.4, 9).
     let charge = 2 * 15_000 * matches + 6_000 * carried + 150_000 * net.abs();
     CommodityLadder {
         refusal: Refusal::NONE,
@@ -60,7 +61,7 @@ pub fn commodity_ladder(book: &[u8], group: usize) -> CommodityLadder {
     }
 }
 
-/// The commodity charge: all 32 ladders, summed, in mils.
+/// The commodity charge: all 32 ladders, summed, in mils (A.4, 5 and 8).
 pub fn charge(rows: &[Row]) -> i128 {
     (0..GROUPS)
         .map(|group| i128::from(ladder(rows, group).charge))

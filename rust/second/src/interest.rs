@@ -1,7 +1,9 @@
-//! The interest ladder of one currency, and the specific charge.
+//! Interest: general risk by the maturity method (A.1, 8 to 13), and specific risk
+//! (A.1, 3 to 7). The two are charged separately (A.1, 2).
 
 use crate::bands::{interest_band, interest_weight, zone_of_band};
 use crate::book::{read, Class, Refusal, Row};
+use crate::kinds::{GOVERNMENT, OTHER, QUALIFYING};
 use crate::{figure, GROUPS};
 
 /// What the ladder call gives: gross, the match sums, the residual and the charge.
@@ -20,13 +22,13 @@ pub struct InterestLadder {
     pub charge: u64,
 }
 
-/// The interest rows of one currency.
+/// The interest rows of one currency: each has a ladder of its own (A.1, 9).
 fn currency(rows: &[Row], group: usize) -> Vec<Row> {
     let wanted = |row: &&Row| row.class == Class::Interest && row.group == group;
     rows.iter().filter(wanted).copied().collect()
 }
 
-/// The weighted longs and the weighted shorts of one band.
+/// The weighted longs and the weighted shorts of one band (A.1, 11).
 fn weighted(rows: &[Row], band: usize) -> (i128, i128) {
     let weight = interest_weight(band);
     rows.iter()
@@ -36,14 +38,15 @@ fn weighted(rows: &[Row], band: usize) -> (i128, i128) {
         })
 }
 
-/// Longs against shorts over several nets: the match and the signed rest.
+/// Longs against shorts over the net bands of a zone: the match and the signed rest
+/// (A.1, 13).
 fn offset(nets: &[i128]) -> (i128, i128) {
     let long: i128 = nets.iter().filter(|net| **net > 0).sum();
     let short: i128 = nets.iter().filter(|net| **net < 0).sum::<i128>().abs();
     (long.min(short), long - short)
 }
 
-/// Two zones against each other: the match, and what is left of each.
+/// Two zones against each other: the match, and what is left of each (A.1, 13).
 fn against(one: i128, other: i128) -> (i128, i128, i128) {
     if one.signum() * other.signum() >= 0 {
         return (0, one, other);
@@ -56,7 +59,8 @@ fn against(one: i128, other: i128) -> (i128, i128, i128) {
     )
 }
 
-/// The ladder over the rows of one currency, in weighted positions.
+/// The ladder over the rows of one currency, in weighted positions. Zones 1 and 2 come
+/// first, and no position is used twice: document 01's order (A.1, 13).
 fn ladder(rows: &[Row]) -> InterestLadder {
     let bands: Vec<(i128, i128)> = (0..15).map(|band| weighted(rows, band)).collect();
     let gross: i128 = bands.iter().map(|(long, short)| long + short).sum();
@@ -71,6 +75,7 @@ fn ladder(rows: &[Row]) -> InterestLadder {
     let (zones_2_3, net_2, net_3) = against(net_2, net_3);
     let (zones_1_3, net_1, net_3) = against(net_1, net_3);
     let residual = (net_1 + net_2 + net_3).abs();
+    // 10% of a match within a band (A.1, 12); the others by Table 2 (A.1, 13).
     let disallowed = 10 * vertical
         + 40 * zone_1
         + 30 * zone_2
@@ -89,6 +94,7 @@ fn ladder(rows: &[Row]) -> InterestLadder {
         zones_2_3: figure(zones_2_3),
         zones_1_3: figure(zones_1_3),
         residual: figure(residual),
+        // All of the residual is charged (A.1, 8; C.2).
         charge: figure(disallowed + 100 * residual),
     }
 }
@@ -108,14 +114,14 @@ pub fn interest_ladder(book: &[u8], group: usize) -> InterestLadder {
     }
 }
 
-/// The general charge: the ladders of all currencies, summed, in mils.
+/// The general charge: the ladders of all currencies, summed, in mils (A.1, 9).
 pub fn general(rows: &[Row]) -> i128 {
     (0..GROUPS)
         .map(|group| i128::from(ladder(&currency(rows, group)).charge))
         .sum()
 }
 
-/// The specific charge of interest rows, in mils.
+/// The specific charge of interest rows, long or short, in mils (A.1, 2 and 4).
 pub fn specific(rows: &[Row]) -> i128 {
     rows.iter()
         .filter(|row| row.class == Class::Interest)
@@ -125,19 +131,57 @@ pub fn specific(rows: &[Row]) -> i128 {
 
 /// The specific weight of an interest row, in basis points.
 fn specific_weight(row: &Row) -> i128 {
-    match (row.kind, row.days) {
-        (1, _) => 0,
-        (2, ..=180) => 25,
-        (2, ..=720) => 100,
-        (2, _) => 160,
-        _ => 800,
+    match row.kind {
+        // A.1, 4 and 5.
+        GOVERNMENT => 0,
+        // A.1, 4 and 6: up to 6 months, up to 24, and beyond.
+        QUALIFYING => match row.days {
+            0..=180 => 25,
+            181..=720 => 100,
+            721..=36_000 => 160,
+            days => unreachable!("no interest row has {days} days"),
+        },
+        // A.1, 4 and 7.
+        OTHER => 800,
+        kind => unreachable!("no interest row has kind {kind}"),
     }
 }
 
-/// Which of the zones 1, 2 and 3 a currency uses, also at weight 0.
+/// Which of the zones 1, 2 and 3 (A.1, 13) a currency uses, also at weight 0.
 /// A refused book uses none.
 pub fn zones_used(book: &[u8], group: usize) -> [bool; 3] {
     let rows = currency(&read(book).unwrap_or_default(), group);
     let zone = |row: &Row| zone_of_band(interest_band(row.days, row.coupon));
     [1, 2, 3].map(|wanted| rows.iter().any(|row| zone(row) == wanted))
+}
+
+#[cfg(test)]
+mod tests {
+    use super::*;
+
+    /// An interest row of a kind.
+    fn of_kind(kind: u8) -> Row {
+        Row {
+            class: Class::Interest,
+            group: 1,
+            kind,
+            days: 60,
+            coupon: 300,
+            long: 1,
+            short: 0,
+        }
+    }
+
+    /// Catches a new kind that is charged like one of the three, in silence.
+    #[test]
+    fn no_other_kind_has_a_specific_weight() {
+        assert_eq!(
+            [1, 2, 3].map(|kind| specific_weight(&of_kind(kind))),
+            [0, 25, 800]
+        );
+        for kind in (0..=255).filter(|kind| !(1..=3).contains(kind)) {
+            let weight = std::panic::catch_unwind(|| specific_weight(&of_kind(kind)));
+            assert!(weight.is_err(), "kind {kind}");
+        }
+    }
 }

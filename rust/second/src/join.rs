@@ -1,4 +1,4 @@
-//! Two books into one.
+//! Two books into one: document 01's own, since the Amendment does not join.
 
 use crate::book::{check, counts, Refusal};
 

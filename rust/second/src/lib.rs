@@ -4,16 +4,22 @@
 //! currency, market or commodity filters its own rows out of that list, and a net
 //! is one signed 128-bit number. It shares no table and no code with the library
 //! that it is compared with.
+//!
+//! In brackets stands the paragraph of the Amendment that a rule comes from, as in
+//! document 01: "A.1, 13" is paragraph 13 of section A.1. A kind, a band or days that no
+//! accepted row has stop the calculation, so that nothing new is charged in silence.
 
 mod bands;
 mod book;
 mod commodity;
+mod entries;
 mod interest;
 mod join;
+mod kinds;
 mod open;
 mod report;
 
-pub use bands::{commodity_band, interest_band, zone_of_band};
+pub use bands::{commodity_band, interest_band, interest_weight, zone_of_band};
 pub use book::{check, Refusal};
 pub use commodity::{commodity_ladder, CommodityLadder};
 pub use interest::{interest_ladder, zones_used, InterestLadder};

@@ -1,4 +1,5 @@
-//! The report of a book: six charges and their total, in mils.
+//! The report of a book: six charges and their total, in mils (Introduction I, 9 and
+//! 13 (b)).
 
 use crate::book::{read, Refusal, Row};
 use crate::{commodity, figure, interest, open};

@@ -91,10 +91,19 @@ fn a_row_is_tried_from_4_to_9() {
     }
 }
 
+/// Catches a fourth kind that is let in, and with it a charge that nobody wrote.
 #[test]
-fn kind_0_is_of_no_interest_or_equity_row() {
-    assert_eq!(check(&interest(&[row(1, 0, 0, 0, 1)])), at(5, 0));
-    assert_eq!(check(&equity(&[row(1, 0, 0, 0, 1)])), at(5, 0));
+fn every_kind_but_those_of_its_class_is_refused() {
+    let known: [&[u8]; 4] = [&[1, 2, 3], &[1, 2, 3], &[0], &[0]];
+    for (class, kinds) in known.iter().enumerate() {
+        for kind in 0..=255 {
+            let mut bodies: [&[Bytes]; 4] = [&[]; 4];
+            let rows = [row(1, kind, 0, 0, 1)];
+            bodies[class] = &rows;
+            let number = if kinds.contains(&kind) { 0 } else { 5 };
+            assert_eq!(check(&book(bodies)), at(number, 0), "{class} {kind}");
+        }
+    }
 }
 
 #[test]

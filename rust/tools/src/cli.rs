@@ -1,6 +1,8 @@
-//! The words of a command line, help texts, files and how a command fails.
+//! The words of a command line, help texts and how a command fails.
 
-use std::io::{self, Read, Write};
+pub use crate::files::print;
+use std::ffi::{OsStr, OsString};
+use std::path::Path;
 
 /// A refused book, a difference, or vectors that are not current.
 const NO: u8 = 1;
@@ -26,17 +28,12 @@ pub fn no(message: impl ToString) -> Failure {
     }
 }
 
-/// The command line is wrong.
+/// The command line is wrong, or a file cannot be used.
 pub fn usage(message: &str) -> Failure {
     Failure {
         status: PROBLEM,
         message: message.to_string(),
     }
-}
-
-/// A file cannot be used.
-fn unusable(path: &str, error: &io::Error) -> Failure {
-    usage(&format!("{path}: {error}"))
 }
 
 /// A subcommand.
@@ -55,7 +52,7 @@ pub struct Command {
 
 impl Command {
     /// Shows the help text, or runs the command on its words.
-    pub fn start(&self, words: &[String]) -> Outcome {
+    pub fn start(&self, words: &[OsString]) -> Outcome {
         if words.iter().any(|word| word == "--help" || word == "-h") {
             return print(self.help);
         }
@@ -73,34 +70,36 @@ pub fn overview(commands: &[Command]) -> String {
     }
     text.push_str(
         "\nmarket-risk COMMAND --help tells of one. A file named - is standard input or output.\n\
+         An output is written whole or not at all, and may not be one of the inputs.\n\
          Exit status: 0 done; 1 a refused book, a difference, or vectors that are not current;\n\
          2 a wrong command line, or a file that cannot be read or written.\n",
     );
     text
 }
 
-/// The words of a command line, sorted out.
+/// The words of a command line, sorted out. File names may be any bytes.
 #[derive(Debug, Default, PartialEq, Eq)]
 pub struct Args {
-    files: Vec<String>,
-    options: Vec<(String, String)>,
-    flags: Vec<String>,
+    files: Vec<OsString>,
+    options: Vec<(OsString, OsString)>,
+    flags: Vec<OsString>,
 }
 
 impl Args {
     /// Sorts words into files, options with their values, and flags.
-    fn parse(words: &[String], options: &[&str], flags: &[&str]) -> Result<Args, Failure> {
+    fn parse(words: &[OsString], options: &[&str], flags: &[&str]) -> Result<Args, Failure> {
         let mut args = Args::default();
         let mut words = words.iter();
         while let Some(word) = words.next() {
-            if options.contains(&word.as_str()) {
+            let shown = word.display();
+            if options.iter().any(|option| word == option) {
                 let value = words.next();
-                let value = value.ok_or_else(|| usage(&format!("{word} wants a value")))?;
+                let value = value.ok_or_else(|| usage(&format!("{shown} wants a value")))?;
                 args.options.push((word.clone(), value.clone()));
-            } else if flags.contains(&word.as_str()) {
+            } else if flags.iter().any(|flag| word == flag) {
                 args.flags.push(word.clone());
-            } else if word.starts_with('-') && word != "-" {
-                return Err(usage(&format!("no option '{word}'; see --help")));
+            } else if word.as_encoded_bytes().starts_with(b"-") && word != "-" {
+                return Err(usage(&format!("no option '{shown}'; see --help")));
             } else {
                 args.files.push(word.clone());
             }
@@ -109,8 +108,8 @@ impl Args {
     }
 
     /// Exactly so many files.
-    pub fn files<const N: usize>(&self) -> Result<[&str; N], Failure> {
-        let files: Vec<&str> = self.files.iter().map(String::as_str).collect();
+    pub fn files<const N: usize>(&self) -> Result<[&Path; N], Failure> {
+        let files: Vec<&Path> = self.files.iter().map(Path::new).collect();
         let given = files.len();
         files.try_into().map_err(|_| {
             usage(&format!(
@@ -120,16 +119,23 @@ impl Args {
     }
 
     /// The last value given for an option.
-    pub fn value(&self, name: &str) -> Option<&str> {
+    fn value(&self, name: &str) -> Option<&OsStr> {
         let given = self.options.iter().rfind(|(option, _)| option == name);
-        given.map(|(_, value)| value.as_str())
+        given.map(|(_, value)| value.as_os_str())
+    }
+
+    /// An option's value as the name of a file or folder.
+    pub fn path(&self, name: &str) -> Option<&Path> {
+        self.value(name).map(Path::new)
     }
 
     /// An option's value as a whole number.
     pub fn number(&self, name: &str) -> Result<Option<u64>, Failure> {
-        let parse = |text: &str| {
-            let number = text.replace('_', "").parse();
-            number.map_err(|_| usage(&format!("{name} is '{text}', not a whole number")))
+        let parse = |value: &OsStr| {
+            let digits = value.to_str().map(|text| text.replace('_', ""));
+            let number = digits.and_then(|digits| digits.parse().ok());
+            let shown = value.display();
+            number.ok_or_else(|| usage(&format!("{name} is '{shown}', not a whole number")))
         };
         self.value(name).map(parse).transpose()
     }
@@ -140,43 +146,19 @@ impl Args {
     }
 }
 
-/// The bytes of a file, or of standard input for -.
-pub fn read(path: &str) -> Result<Vec<u8>, Failure> {
-    let mut bytes = Vec::new();
-    let done = match path {
-        "-" => io::stdin().read_to_end(&mut bytes).map(|_| bytes),
-        _ => std::fs::read(path),
-    };
-    done.map_err(|error| unusable(path, &error))
-}
-
-/// Writes a file, or standard output for -.
-pub fn write(path: &str, bytes: &[u8]) -> Outcome {
-    let done = match path {
-        "-" => io::stdout().write_all(bytes),
-        _ => std::fs::write(path, bytes),
-    };
-    done.map_err(|error| unusable(path, &error))
-}
-
-/// Writes text to standard output.
-pub fn print(text: &str) -> Outcome {
-    write("-", text.as_bytes())
-}
-
 #[cfg(test)]
 mod tests {
     use super::*;
 
     fn parse(line: &str) -> Result<Args, Failure> {
-        let words: Vec<String> = line.split_whitespace().map(String::from).collect();
+        let words: Vec<OsString> = line.split_whitespace().map(OsString::from).collect();
         Args::parse(&words, &["--seed"], &["--all"])
     }
 
     #[test]
     fn words_are_sorted_out() {
         let args = parse("a --seed 7 - --all --seed 1_000").unwrap();
-        assert_eq!(args.files(), Ok(["a", "-"]));
+        assert_eq!(args.files(), Ok(["a", "-"].map(Path::new)));
         assert_eq!(args.number("--seed"), Ok(Some(1000)));
         assert!(args.flag("--all"));
         assert!(args.files::<1>().is_err());

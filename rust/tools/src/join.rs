@@ -1,6 +1,7 @@
 //! `join`: two books into one.
 
-use crate::cli::{no, read, write, Args, Command, Outcome};
+use crate::cli::{no, Args, Command, Outcome};
+use crate::files::{apart, input, read_book, write};
 
 pub const COMMAND: Command = Command {
     name: "join",
@@ -18,11 +19,12 @@ together.
 
 fn run(args: &Args) -> Outcome {
     let [a, b, to] = args.files()?;
-    let joined = market_risk::joined(&read(a)?, &read(b)?);
+    apart(to, &[a, b])?;
+    let joined = market_risk::joined(&read_book(a)?, &read_book(b)?);
     let named = |refusal: market_risk::Refusal| match refusal.number {
         11 | 12 => no(refusal),
-        _ if refusal.book == 1 => no(format!("{b}: {refusal}")),
-        _ => no(format!("{a}: {refusal}")),
+        _ if refusal.book == 1 => no(format!("{}: {refusal}", input(b))),
+        _ => no(format!("{}: {refusal}", input(a))),
     };
     write(to, &joined.map_err(named)?)
 }

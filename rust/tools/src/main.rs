@@ -5,6 +5,7 @@ mod bench;
 mod calls;
 mod cli;
 mod compare;
+mod files;
 mod join;
 mod ladder;
 mod pack;
@@ -15,6 +16,8 @@ mod unpack;
 mod vectors;
 
 use cli::{Command, Outcome};
+use std::ffi::OsString;
+use std::io::Write;
 use std::process::ExitCode;
 
 /// The subcommands, in the order of the help text.
@@ -30,27 +33,29 @@ const COMMANDS: [Command; 8] = [
 ];
 
 /// Runs the subcommand that the first word names.
-fn run(words: &[String]) -> Outcome {
+fn run(words: &[OsString]) -> Outcome {
     let Some((name, rest)) = words.split_first() else {
         return Err(cli::usage("no command given; see market-risk --help"));
     };
-    if matches!(name.as_str(), "--help" | "-h" | "help") {
+    if ["--help", "-h", "help"].iter().any(|help| name == help) {
         return cli::print(&cli::overview(&COMMANDS));
     }
-    match COMMANDS.iter().find(|command| command.name == name) {
+    match COMMANDS.iter().find(|command| name == command.name) {
         Some(command) => command.start(rest),
         None => Err(cli::usage(&format!(
-            "no command '{name}'; see market-risk --help"
+            "no command '{}'; see market-risk --help",
+            name.display()
         ))),
     }
 }
 
 fn main() -> ExitCode {
-    let words: Vec<String> = std::env::args().skip(1).collect();
+    let words: Vec<OsString> = std::env::args_os().skip(1).collect();
     match run(&words) {
         Ok(()) => ExitCode::SUCCESS,
         Err(failure) => {
-            eprintln!("market-risk: {}", failure.message);
+            // The exit status stands also where the message cannot be written.
+            let _ = writeln!(std::io::stderr(), "market-risk: {}", failure.message);
             ExitCode::from(failure.status)
         }
     }

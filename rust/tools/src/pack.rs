@@ -1,6 +1,7 @@
 //! `pack`: CSV text into a book.
 
-use crate::cli::{no, read, usage, write, Args, Command, Failure, Outcome};
+use crate::cli::{no, usage, Args, Command, Failure, Outcome};
+use crate::files::{apart, input, read, write};
 use books::csv::{parse, Parsed};
 use books::MOST_ROWS;
 use market_risk::Refusal;
@@ -67,9 +68,10 @@ fn pack(text: &str, unchecked: bool) -> Result<Vec<u8>, String> {
 
 fn run(args: &Args) -> Outcome {
     let [from, to] = args.files()?;
+    apart(to, &[from])?;
     let text = String::from_utf8(read(from)?);
-    let text = text.map_err(|_| usage(&format!("{from}: not UTF-8 text")))?;
-    let named = |what: String| -> Failure { no(format!("{from}: {what}")) };
+    let text = text.map_err(|_| usage(&format!("{}: not UTF-8 text", input(from))))?;
+    let named = |what: String| -> Failure { no(format!("{}: {what}", input(from))) };
     let bytes = pack(&text, args.flag("--unchecked")).map_err(named)?;
     write(to, &bytes)
 }

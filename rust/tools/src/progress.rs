@@ -24,8 +24,7 @@ impl Progress {
     pub fn done(&mut self, count: u64) {
         let due = |last: Instant| last.elapsed() > Duration::from_millis(100);
         if self.terminal && self.shown.is_none_or(due) {
-            eprint!("\r{count} of {}", self.total);
-            let _ = std::io::stderr().flush();
+            let _ = write!(std::io::stderr(), "\r{count} of {}", self.total);
             self.shown = Some(Instant::now());
         }
     }
@@ -33,7 +32,7 @@ impl Progress {
     /// Takes the line away.
     pub fn clear(&mut self) {
         if self.shown.take().is_some() {
-            eprint!("\r\x1b[K");
+            let _ = write!(std::io::stderr(), "\r\x1b[K");
         }
     }
 }

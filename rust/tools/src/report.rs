@@ -1,6 +1,7 @@
 //! `report`: the charges of a book, or why it is refused.
 
-use crate::cli::{no, print, read, Args, Command, Outcome};
+use crate::cli::{no, Args, Command, Outcome};
+use crate::files::{input, print, read_book};
 use crate::text::{mils, table, whole};
 use books::names::{kind_name, kinds, CLASS_NAMES};
 use books::{Book, Row};
@@ -93,10 +94,13 @@ pub fn explain(bytes: &[u8], refusal: &Refusal) -> String {
 
 fn run(args: &Args) -> Outcome {
     let [path] = args.files()?;
-    let bytes = read(path)?;
+    let bytes = read_book(path)?;
     match market_risk::charge(&bytes) {
         Ok(report) => print(&figures(&report)),
-        Err(refusal) => Err(no(format!("{path}: {}", explain(&bytes, &refusal)))),
+        Err(refusal) => {
+            let why = explain(&bytes, &refusal);
+            Err(no(format!("{}: {why}", input(path))))
+        }
     }
 }
 

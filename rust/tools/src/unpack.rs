@@ -1,6 +1,7 @@
 //! `unpack`: a book into CSV text.
 
-use crate::cli::{no, read, write, Args, Command, Outcome};
+use crate::cli::{no, Args, Command, Outcome};
+use crate::files::{apart, input, read_book, write};
 use books::{csv, Book};
 
 pub const COMMAND: Command = Command {
@@ -19,12 +20,13 @@ A file whose length does not agree with its counts has no rows and is an error.
 
 fn run(args: &Args) -> Outcome {
     let [from, to] = args.files()?;
-    let bytes = read(from)?;
+    apart(to, &[from])?;
+    let bytes = read_book(from)?;
     let Some(book) = Book::decode(&bytes) else {
         let why = "the length does not agree with the counts";
         let why =
             market_risk::check(&bytes).map_or_else(|refusal| refusal.to_string(), |()| why.into());
-        return Err(no(format!("{from}: {why}")));
+        return Err(no(format!("{}: {why}", input(from))));
     };
     write(to, csv::write(&book).as_bytes())
 }

@@ -146,6 +146,23 @@ fn errors_name_the_line_or_the_row() {
     assert!(fails(1, &["pack", &text, &book]).contains("line 2: class is 'bond'"));
 }
 
+/// Catches a CSV file in the place of a book that is refused for its "row counts".
+#[test]
+fn csv_text_is_told_from_a_book() {
+    let (csv, book, out) = (sample("keyed"), packed("keyed", "text"), temporary("text"));
+    for words in [
+        &["report", &csv][..],
+        &["ladder", &csv, "--currency", "7"],
+        &["unpack", &csv, &out],
+        &["join", &csv, &book, &out],
+        &["join", &book, &csv, &out],
+    ] {
+        let told = fails(1, words);
+        assert!(told.contains("keyed.csv: looks like CSV text"), "{told}");
+        assert!(told.contains("market-risk pack"), "{told}");
+    }
+}
+
 #[test]
 fn wrong_command_lines() {
     assert!(fails(2, &[]).contains("--help"));

@@ -26,5 +26,18 @@ fn vectors_are_current_until_they_are_changed() {
 #[test]
 fn a_short_benchmark_prints_every_line() {
     let text = prints(&["bench", "--rounds", "1"]);
-    assert_eq!(text.lines().count(), 2 + 3 * 3 + 2 * 3);
+    let tables: Vec<&str> = text.split("\n\n").skip(1).collect();
+    let calls = [
+        "check",
+        "charge",
+        "interest ladder",
+        "commodity ladder",
+        "join",
+    ];
+    assert_eq!(tables.len(), calls.len());
+    for (table, call) in tables.iter().zip(calls) {
+        assert!(table.starts_with(&format!("{call} ")), "{table}");
+        assert!(table.contains("proved / Rust"), "{table}");
+        assert_eq!(table.lines().count(), 1 + 9, "{table}");
+    }
 }

@@ -10,10 +10,10 @@ const MARK: u64 = 0xa5a5_a5a5_a5a5_a5a5;
 const GUARD: usize = 32;
 
 /// Both results of a call, where they are not the same.
-fn unequal(call: &str, library: &[u64], other: &[u64]) -> Option<String> {
+fn unequal(call: &str, names: [&str; 2], library: &[u64], other: &[u64]) -> Option<String> {
+    let [one, two] = names;
     let differ = library != other;
-    differ
-        .then(|| format!("{call}: the library gives {library:?}, the second calculation {other:?}"))
+    differ.then(|| format!("{call}: {one} gives {library:?}, {two} {other:?}"))
 }
 
 /// Runs one call of both calculations and compares what they write.
@@ -27,7 +27,8 @@ fn both<const N: usize>(
         run(calculation, &mut out);
         out
     });
-    unequal(call, &library, &other)
+    let names = calculations.map(|calculation| calculation.name());
+    unequal(call, names, &library, &other)
 }
 
 /// The output of a join, between guards, and its result.
@@ -44,12 +45,13 @@ fn joined(calls: &dyn Calls, case: &Case) -> (Vec<u8>, [u64; 4]) {
 fn join(library: &dyn Calls, other: &dyn Calls, case: &Case) -> Option<String> {
     let (ours, result) = joined(library, case);
     let (theirs, expected) = joined(other, case);
-    unequal("join", &result, &expected).or_else(|| {
+    let names = [library.name(), other.name()];
+    unequal("join", names, &result, &expected).or_else(|| {
         let at = ours.iter().zip(&theirs).position(|(one, two)| one != two)?;
         let place = at as i64 - GUARD as i64;
-        let (one, two) = (ours[at], theirs[at]);
+        let ([one, two], byte, expected) = (names, ours[at], theirs[at]);
         Some(format!(
-            "join: output byte {place} is {one} by the library and {two} by the second calculation"
+            "join: output byte {place} is {byte} by {one} and {expected} by {two}"
         ))
     })
 }

@@ -7,15 +7,33 @@ use std::fmt;
 /// Counts of books, refusals and joins.
 #[derive(Default)]
 pub struct Tally {
-    accepted: u64,
+    pub accepted: u64,
     /// First books by the number of their refusal, 1 to 9.
-    refused: [u64; 10],
-    ladder_refused: u64,
+    pub refused: [u64; 10],
+    pub ladder_refused: u64,
     /// Joins by the number of their refusal; 0 counts those that were made.
-    joins: [u64; 13],
-    of_second: u64,
-    premise: u64,
+    pub joins: [u64; 13],
+    pub of_second: u64,
+    pub premise: u64,
 }
+
+/// What 20,000 cases must show at least: about a third of what they do show.
+const LEAST: Tally = Tally {
+    accepted: 3_500,
+    refused: [0, 80, 150, 800, 400, 300, 300, 300, 400, 150],
+    ladder_refused: 800,
+    joins: [
+        1_200, 130, 270, 1_300, 600, 500, 450, 550, 650, 300, 0, 20, 600,
+    ],
+    of_second: 1_600,
+    premise: 1_200,
+};
+
+/// The cases that `LEAST` is about.
+const CASES: u128 = 20_000;
+
+/// A minimum that comes to fewer is not asked for: chance alone could miss it.
+const FEWEST: u64 = 10;
 
 impl Tally {
     /// Counts a case, by the second calculation.
@@ -32,6 +50,37 @@ impl Tally {
         out.truncate(joined.length as usize);
         let made = joined.refusal.accepted();
         self.premise += u64::from(made && two_zones(&out));
+    }
+
+    /// Every count beside its name.
+    fn named(&self) -> Vec<(String, u64)> {
+        let numbered = |name: &'static str, counts: &[u64]| -> Vec<(String, u64)> {
+            let counts = counts.iter().enumerate().skip(1);
+            let named = counts.map(|(number, count)| (format!("{name} {number}"), *count));
+            named.collect()
+        };
+        let mut counts = vec![
+            ("books accepted".to_string(), self.accepted),
+            ("ladders refused 10".to_string(), self.ladder_refused),
+            ("joins made".to_string(), self.joins[0]),
+            ("joins under the zone premise".to_string(), self.premise),
+            ("joins refused for the second book".into(), self.of_second),
+        ];
+        counts.extend(numbered("books refused", &self.refused));
+        counts.extend(numbered("joins refused", &self.joins));
+        counts
+    }
+
+    /// What so many cases should have shown and have not, in words.
+    pub fn lacking(&self, cases: u64) -> Vec<String> {
+        let wanted = |least: u64| (u128::from(least) * u128::from(cases) / CASES) as u64;
+        let counts = self.named().into_iter().zip(LEAST.named());
+        let short = counts.filter_map(|((name, count), (_, least))| {
+            let wanted = wanted(least);
+            (wanted >= FEWEST && count < wanted)
+                .then(|| format!("{name}: {count} where at least {wanted} are wanted"))
+        });
+        short.collect()
     }
 }
 
@@ -57,5 +106,57 @@ impl fmt::Display for Tally {
             "joins refused {not_joined}, for the second book {}",
             self.of_second
         )
+    }
+}
+
+#[cfg(test)]
+mod tests {
+    use super::*;
+
+    /// What a run must show, and one number of it that is one too low.
+    fn one_short(of: impl Fn(&mut Tally) -> &mut u64) -> Vec<String> {
+        let mut tally = LEAST;
+        *of(&mut tally) -= 1;
+        tally.lacking(20_000)
+    }
+
+    /// Catches a minimum that is left out or is nothing: each of these must be missed.
+    #[test]
+    fn every_count_has_a_minimum() {
+        assert!(LEAST.lacking(20_000).is_empty());
+        let alone = |of: fn(&mut Tally) -> &mut u64, name: &str| {
+            let lacking = one_short(of);
+            assert_eq!(lacking.len(), 1, "{name}");
+            assert!(lacking[0].starts_with(&format!("{name}: ")), "{lacking:?}");
+        };
+        alone(|tally| &mut tally.accepted, "books accepted");
+        alone(|tally| &mut tally.ladder_refused, "ladders refused 10");
+        alone(|tally| &mut tally.joins[0], "joins made");
+        alone(|tally| &mut tally.premise, "joins under the zone premise");
+        alone(
+            |tally| &mut tally.of_second,
+            "joins refused for the second book",
+        );
+        for number in 1..=9 {
+            let lacking = one_short(|tally| &mut tally.refused[number]);
+            assert!(lacking[0].starts_with(&format!("books refused {number}: ")));
+        }
+        for number in (1..=9).chain(11..=12) {
+            let lacking = one_short(|tally| &mut tally.joins[number]);
+            assert!(lacking[0].starts_with(&format!("joins refused {number}: ")));
+        }
+    }
+
+    /// Catches minimums that do not follow the count of the run.
+    #[test]
+    fn minimums_follow_the_count() {
+        let nothing = Tally::default();
+        assert_eq!(nothing.lacking(20_000).len(), 5 + 9 + 11);
+        assert!(LEAST.lacking(20_100).len() > 10);
+        let half = nothing.lacking(10_000);
+        assert!(half.contains(&"joins refused 11: 0 where at least 10 are wanted".to_string()));
+        // Few cases may miss the rarest, and very few may miss anything.
+        assert_eq!(nothing.lacking(9_999).len(), 5 + 9 + 10);
+        assert_eq!(nothing.lacking(57), [""; 0]);
     }
 }

@@ -1,7 +1,8 @@
 //! The comparison finds faults, and finds small books for them.
 
 use super::case::Case;
-use super::{check, difference, explain, laws};
+use super::run::Run;
+use super::{check, laws};
 use crate::calls::{Calls, Second};
 
 /// A calculation with one fault.
@@ -27,6 +28,10 @@ enum Fault {
 struct Faulty(Fault);
 
 impl Calls for Faulty {
+    fn name(&self) -> &'static str {
+        "a faulty calculation"
+    }
+
     fn check(&self, book: &[u8], out: &mut [u64; 3]) {
         Second.check(book, out);
     }
@@ -69,9 +74,21 @@ impl Calls for Faulty {
     }
 }
 
+/// A faulty calculation against the second one.
+fn run(library: &Faulty) -> Run<'_> {
+    Run {
+        library,
+        other: &Second,
+        cases: Case::new,
+        seed: 1,
+        first: 0,
+        count: 300,
+    }
+}
+
 /// The first case of a seed on which a calculation differs from the second one.
 fn found(fault: Fault) -> Option<(u64, Case)> {
-    let differs = |case: &Case| difference(&Faulty(fault), &Second, case).is_some();
+    let differs = |case: &Case| run(&Faulty(fault)).difference(case).is_some();
     (0..3_000)
         .map(|number| (number, Case::new(1, number)))
         .find(|(_, case)| differs(case))
@@ -79,12 +96,7 @@ fn found(fault: Fault) -> Option<(u64, Case)> {
 
 #[test]
 fn no_fault_is_found_where_there_is_none() {
-    assert!((0..300).all(|number| difference(
-        &Faulty(Fault::None),
-        &Second,
-        &Case::new(1, number)
-    )
-    .is_none()));
+    assert!(run(&Faulty(Fault::None)).outcome().is_ok());
 }
 
 #[test]
@@ -120,7 +132,7 @@ fn the_laws_alone_find_what_the_figures_of_one_book_cannot() {
 fn a_difference_is_shown_with_a_small_book() {
     let (number, case) = found(Fault::Carried).unwrap();
     assert!(check::difference(&Faulty(Fault::Carried), &Second, &case).is_some());
-    let text = explain(&Faulty(Fault::Carried), &Second, &case, number, 1);
+    let text = run(&Faulty(Fault::Carried)).explain(&case, number);
     assert!(text.starts_with(&format!(
         "pair {number} of seed 1 differs\ncommodity ladder: "
     )));

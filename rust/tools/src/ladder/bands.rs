@@ -56,6 +56,9 @@ mod tests {
                 second::commodity_band(i128::from(days))
             );
         }
+        for (band, weight) in WEIGHTS.iter().enumerate() {
+            assert_eq!(*weight, second::interest_weight(band));
+        }
         for (zone, bands) in ZONES.iter().enumerate() {
             assert!(bands
                 .clone()

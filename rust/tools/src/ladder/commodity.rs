@@ -109,3 +109,78 @@ pub fn show(rows: &[Row], group: u64, ladder: &CommodityLadder) -> Result<String
         table(&steps)
     ))
 }
+
+#[cfg(test)]
+mod tests {
+    use super::*;
+    use books::Book;
+
+    /// E5, in commodity 5.
+    fn rows() -> Vec<Row> {
+        let row = |days, long, short| {
+            let row = Row::default().with_group(5);
+            row.with_days(days).with_sides(long, short)
+        };
+        vec![
+            row(150, 800, 0),
+            row(150, 0, 1000),
+            row(600, 600, 0),
+            row(1100, 0, 600),
+        ]
+    }
+
+    /// The library's figures of commodity 5.
+    fn library(rows: &[Row]) -> CommodityLadder {
+        let mut book = Book::default();
+        book.classes[3] = rows.to_vec();
+        market_risk::commodity_ladder(&book.encode().unwrap(), 5).unwrap()
+    }
+
+    /// Each figure of a ladder, by the name that its check has.
+    const FIGURES: [(&str, fn(&mut CommodityLadder) -> &mut u64); 4] = [
+        ("matches", |ladder| &mut ladder.matches),
+        ("carried", |ladder| &mut ladder.carried),
+        ("residual", |ladder| &mut ladder.residual),
+        ("charge", |ladder| &mut ladder.charge),
+    ];
+
+    /// Catches a cross-check that is always true, is not made, or leaves a figure out.
+    #[test]
+    fn a_wrong_figure_of_the_library_is_named() {
+        let right = library(&rows());
+        assert!(show(&rows(), 5, &right).is_ok());
+        for (name, figure) in FIGURES {
+            for by in [1, 1 << 40] {
+                let mut wrong = right;
+                *figure(&mut wrong) += by;
+                let told = show(&rows(), 5, &wrong).unwrap_err();
+                assert!(told.starts_with(&format!("{name}: ")), "{name}: {told}");
+            }
+        }
+        assert!(show(&rows(), 5, &CommodityLadder::default()).is_err());
+    }
+
+    /// Catches a cross-check that does not look at a figure of the drawn bands.
+    #[test]
+    fn a_wrong_figure_of_a_band_is_told() {
+        let right = library(&rows());
+        let bands = bands(&rows(), 5);
+        assert!(cross_check(&bands, &right).is_ok());
+        let figures: [fn(&mut Band) -> &mut i128; 4] = [
+            |band| &mut band.long,
+            |band| &mut band.short,
+            |band| &mut band.carried_in,
+            |band| &mut band.matched,
+        ];
+        for at in 0..bands.len() {
+            for (number, figure) in figures.iter().enumerate() {
+                let mut wrong = bands;
+                *figure(&mut wrong[at]) += 1;
+                assert!(cross_check(&wrong, &right).is_err(), "{at}: {number}");
+            }
+        }
+        let mut wrong = bands;
+        wrong[6].net -= 1;
+        assert!(cross_check(&wrong, &right).is_err());
+    }
+}

@@ -103,3 +103,83 @@ pub fn show(rows: &[Row], group: u64, ladder: &InterestLadder) -> Result<String,
         weighted(ladder.residual)
     ))
 }
+
+#[cfg(test)]
+mod tests {
+    use super::*;
+    use books::Book;
+
+    /// Rows of currency 7 in which every step but that between zones 1 and 3, or 2 and 3,
+    /// has a match.
+    fn rows(days_270: u32, days_900: u32, days_1500: u32) -> Vec<Row> {
+        let row = Row::default().with_group(7).with_kind(1).with_coupon(800);
+        let bond = |days, long, short| row.with_days(days).with_sides(long, short);
+        vec![
+            bond(60, 10, 0),
+            bond(60, 0, 4),
+            bond(150, 0, 1),
+            bond(270, days_270, 0),
+            bond(600, 2, 0),
+            bond(900, 0, days_900),
+            bond(1500, days_1500, 0),
+            bond(2880, 0, 5),
+        ]
+    }
+
+    /// The library's figures of currency 7.
+    fn library(rows: &[Row]) -> InterestLadder {
+        let mut book = Book::default();
+        book.classes[0] = rows.to_vec();
+        market_risk::interest_ladder(&book.encode().unwrap(), 7).unwrap()
+    }
+
+    /// Each figure of a ladder, by the name that its check has.
+    const FIGURES: [(&str, fn(&mut InterestLadder) -> &mut u64); 10] = [
+        ("gross", |ladder| &mut ladder.gross),
+        ("within bands", |ladder| &mut ladder.vertical),
+        ("within zone 1", |ladder| &mut ladder.zones[0]),
+        ("within zone 2", |ladder| &mut ladder.zones[1]),
+        ("within zone 3", |ladder| &mut ladder.zones[2]),
+        ("zones 1 and 2", |ladder| &mut ladder.zones_1_2),
+        ("zones 2 and 3", |ladder| &mut ladder.zones_2_3),
+        ("zones 1 and 3", |ladder| &mut ladder.zones_1_3),
+        ("residual", |ladder| &mut ladder.residual),
+        ("charge", |ladder| &mut ladder.charge),
+    ];
+
+    /// Catches a cross-check that is always true, is not made, or leaves a figure out.
+    #[test]
+    fn a_wrong_figure_of_the_library_is_named() {
+        for rows in [rows(100, 6, 3), rows(10, 16, 13)] {
+            let right = library(&rows);
+            assert!(show(&rows, 7, &right).is_ok());
+            for (name, figure) in FIGURES {
+                for by in [1, 1 << 40] {
+                    let mut wrong = right;
+                    *figure(&mut wrong) += by;
+                    let told = show(&rows, 7, &wrong).unwrap_err();
+                    assert!(told.starts_with(&format!("{name}: ")), "{name}: {told}");
+                }
+            }
+            assert!(show(&rows, 7, &InterestLadder::default()).is_err());
+        }
+    }
+
+    /// Catches bands that are drawn from other rows than the library was given.
+    #[test]
+    fn a_row_too_few_or_in_another_place_is_told() {
+        let rows = rows(100, 6, 3);
+        let right = library(&rows);
+        for at in 0..rows.len() {
+            let mut fewer = rows.clone();
+            fewer.remove(at);
+            assert!(show(&fewer, 7, &right).is_err(), "row {at}");
+            let mut moved = rows.clone();
+            moved[at].days += 1_000;
+            assert!(show(&moved, 7, &right).is_err(), "row {at}");
+            let mut mirrored = rows.clone();
+            mirrored[at] = mirrored[at].mirrored();
+            assert!(show(&mirrored, 7, &right).is_err(), "row {at}");
+        }
+    }
+}

@@ -5,7 +5,8 @@ mod commodity;
 mod interest;
 mod steps;
 
-use crate::cli::{no, print, read, usage, Args, Command, Failure, Outcome};
+use crate::cli::{no, usage, Args, Command, Failure, Outcome};
+use crate::files::{input, print, read_book};
 use crate::report::explain;
 use books::Book;
 use market_risk::Refusal;
@@ -60,9 +61,9 @@ fn ladder(bytes: &[u8], currency: Option<u64>, commodity: Option<u64>) -> Result
 fn run(args: &Args) -> Outcome {
     let [path] = args.files()?;
     let (currency, commodity) = (args.number("--currency")?, args.number("--commodity")?);
-    let bytes = read(path)?;
+    let bytes = read_book(path)?;
     let named = |failure: Failure| Failure {
-        message: format!("{path}: {}", failure.message),
+        message: format!("{}: {}", input(path), failure.message),
         ..failure
     };
     print(&ladder(&bytes, currency, commodity).map_err(named)?)

@@ -113,3 +113,65 @@ pub fn cross_check(
         ladder.gross,
     )
 }
+
+#[cfg(test)]
+mod tests {
+    use super::*;
+
+    /// Weighted bands in which every step but that between zones 2 and 3 has a match.
+    const BANDS: [Sides; 15] = {
+        let mut bands = [(0, 0); 15];
+        bands[1] = (200, 80);
+        bands[2] = (0, 40);
+        bands[3] = (7_000, 0);
+        bands[4] = (250, 0);
+        bands[5] = (0, 1_050);
+        bands[7] = (825, 0);
+        bands[9] = (0, 1_875);
+        bands
+    };
+
+    /// What a right library gives of them: 10 x 80 + 40 x 40 + 30 x 250 + 30 x 825 +
+    /// 40 x 800 + 100 x 1,050 + 100 x 5,230 is 694,650.
+    const LADDER: InterestLadder = InterestLadder {
+        gross: 11_320,
+        vertical: 80,
+        zones: [40, 250, 825],
+        zones_1_2: 800,
+        zones_2_3: 0,
+        zones_1_3: 1_050,
+        residual: 5_230,
+        charge: 694_650,
+    };
+
+    /// Catches a cross-check that does not look at a figure of the drawn ladder: a side of
+    /// a band, a match, a per cent, or the rest.
+    #[test]
+    fn a_wrong_figure_of_the_drawing_is_told() {
+        let check = |bands: &[Sides; 15], steps: &[Step], rest| {
+            cross_check(bands, steps, rest, &LADDER).is_ok()
+        };
+        let (mut steps, rest) = steps(&BANDS);
+        assert!(check(&BANDS, &steps, rest));
+        for band in 0..BANDS.len() {
+            let mut wrong = BANDS;
+            wrong[band].0 += 1;
+            assert!(!check(&wrong, &steps, rest), "band {band} long");
+            let mut wrong = BANDS;
+            wrong[band].1 += 1;
+            assert!(!check(&wrong, &steps, rest), "band {band} short");
+        }
+        for at in 0..steps.len() {
+            steps[at].matched += 1;
+            assert!(!check(&BANDS, &steps, rest), "match {at}");
+            steps[at].matched -= 1;
+            // Nothing is matched between zones 2 and 3 here, at whatever per cent.
+            let per_cent = steps[at].per_cent;
+            steps[at].per_cent /= 2;
+            let unseen = steps[at].matched == 0;
+            assert_eq!(check(&BANDS, &steps, rest), unseen, "per cent {at}");
+            steps[at].per_cent = per_cent;
+        }
+        assert!(!check(&BANDS, &steps, rest + 1));
+    }
+}

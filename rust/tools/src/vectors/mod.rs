@@ -7,11 +7,14 @@ mod faults;
 mod full;
 mod joins;
 mod ladders;
+#[cfg(test)]
+mod page;
 mod random;
 mod stream;
 mod worked;
 
-use crate::cli::{no, print, read, usage, write, Args, Command, Outcome};
+use crate::cli::{no, usage, Args, Command, Outcome};
+use crate::files::{print, read, write};
 use build::Case;
 
 pub const COMMAND: Command = Command {
@@ -59,24 +62,25 @@ fn files(seed: u64) -> [(&'static str, Vec<u8>); 2] {
 fn run(args: &Args) -> Outcome {
     let [] = args.files()?;
     let files = files(args.number("--seed")?.unwrap_or(1));
-    match (args.value("--write"), args.value("--check")) {
+    match (args.path("--write"), args.path("--check")) {
         (Some(folder), None) => {
             for (name, bytes) in &files {
-                write(&format!("{folder}/{name}"), bytes)?;
-                print(&format!("{folder}/{name}: {} bytes\n", bytes.len()))?;
+                let path = folder.join(name);
+                write(&path, bytes)?;
+                print(&format!("{}: {} bytes\n", path.display(), bytes.len()))?;
             }
             Ok(())
         }
         (None, Some(folder)) => {
+            let shown = folder.display();
             for (name, bytes) in &files {
-                let path = format!("{folder}/{name}");
-                if read(&path)? != *bytes {
+                if read(folder.join(name))? != *bytes {
                     return Err(no(format!(
-                        "{path} is not current: run vectors --write {folder}"
+                        "{shown}/{name} is not current: run vectors --write {shown}"
                     )));
                 }
             }
-            print(&format!("{folder}: both files are current\n"))
+            print(&format!("{shown}: both files are current\n"))
         }
         _ => Err(usage("vectors: give one of --write DIR and --check DIR")),
     }

@@ -6,7 +6,7 @@ use books::generate::{book, Shape};
 use books::Random;
 
 /// How many random books there are.
-const BOOKS: u64 = 80;
+pub const BOOKS: u64 = 80;
 
 /// The bytes of a random book, damaged one time in four.
 fn bytes(random: &mut Random) -> Vec<u8> {

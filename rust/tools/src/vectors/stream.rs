@@ -72,79 +72,14 @@ pub fn encode(cases: &[Case]) -> Vec<u8> {
 #[cfg(test)]
 mod tests {
     use super::super::cases;
+    use super::super::page::read;
     use super::*;
-
-    /// A reader as docs/VECTORS.md describes it.
-    struct Reader<'a> {
-        rest: &'a [u8],
-    }
-
-    impl Reader<'_> {
-        fn take(&mut self, count: usize) -> Vec<u8> {
-            let (taken, rest) = self.rest.split_at(count);
-            self.rest = rest;
-            taken.to_vec()
-        }
-
-        fn number(&mut self, bytes: usize) -> usize {
-            let bytes = self.take(bytes);
-            bytes
-                .iter()
-                .rev()
-                .fold(0, |high, byte| high * 256 + usize::from(*byte))
-        }
-
-        fn book(&mut self, length: usize, runs: bool) -> Vec<u8> {
-            if !runs {
-                return self.take(length);
-            }
-            let mut book = self.take(8);
-            while book.len() < length {
-                let count = self.number(2);
-                let row = self.take(16);
-                book.extend(row.repeat(count));
-            }
-            assert_eq!(book.len(), length);
-            book
-        }
-
-        fn case(&mut self) -> Option<Case> {
-            let tag = self.number(1) as u8;
-            let runs = tag & RUNS != 0;
-            if tag == 0 {
-                return None;
-            }
-            if tag & !RUNS == 5 {
-                let (room, a, b) = (self.number(4), self.number(4), self.number(4));
-                let (book, other) = (self.book(a, runs), self.book(b, runs));
-                let room = room as u32;
-                return Some(Case {
-                    call: Call::Join { other, room },
-                    book,
-                });
-            }
-            let (group, length) = (self.number(2) as u16, self.number(4));
-            let call = match tag & !RUNS {
-                1 => Call::Check,
-                2 => Call::Charge,
-                3 => Call::InterestLadder(group),
-                _ => Call::CommodityLadder(group),
-            };
-            Some(Case {
-                call,
-                book: self.book(length, runs),
-            })
-        }
-    }
 
     #[test]
     fn the_stream_reads_back() {
         let cases = cases(2);
         let bytes = encode(&cases);
-        let mut reader = Reader { rest: &bytes };
-        let read: Vec<Case> = std::iter::from_fn(|| reader.case()).collect();
-        assert_eq!(read, cases);
-        assert!(reader.rest.is_empty());
+        assert_eq!(read(&bytes), cases);
     }
 
     #[test]

@@ -1,0 +1,108 @@
+/* The sums of the rows and the charges of the sums, in mils.
+ *
+ * Nets are enough. A match takes as much from the longs as from the shorts, so all that is
+ * matched in a band, a zone or a commodity is half of what the gross has above the net. */
+
+/* Nets by group and band. */
+struct nets {
+    int64_t interest[32][16], commodity[32][8], equity[32], exchange[32];
+};
+
+/* Sums over all groups, in registers, and the groups that are used, a bit each. */
+struct totals {
+    uint64_t weighted, commodities, interest_specific, equity_specific;
+    uint32_t currencies_used, commodities_used;
+};
+
+static inline void take_interest(struct nets *nets, struct totals *totals, const uint8_t *row) {
+    uint64_t head = word(row), amounts = word(row + 8);
+    uint32_t group = head & 31, kind = head >> 8 & 3, days = (uint16_t)(head >> 16);
+    uint32_t band = INTEREST[(uint16_t)(head >> 32) < 300][CELL(days)];
+    uint64_t amount = amount_of(amounts);
+    nets->interest[group][band] += WEIGHT[band] * net_of(amounts);
+    totals->weighted += WEIGHT[band] * amount;
+    totals->interest_specific += amount * SPECIFIC[kind][(days > 180) + (days > 720)];
+    totals->currencies_used |= 1u << group;
+}
+
+static inline void take_equity(struct nets *nets, struct totals *totals, const uint8_t *row) {
+    uint64_t head = word(row), amounts = word(row + 8);
+    nets->equity[head & 31] += net_of(amounts);
+    totals->equity_specific += amount_of(amounts) * EQUITY[head >> 8 & 3];
+}
+
+static inline void take_exchange(struct nets *nets, struct totals *totals, const uint8_t *row) {
+    (void)totals;
+    nets->exchange[word(row) & 31] += net_of(word(row + 8));
+}
+
+static inline void take_commodity(struct nets *nets, struct totals *totals, const uint8_t *row) {
+    uint64_t head = word(row), amounts = word(row + 8);
+    uint32_t group = head & 31, band = COMMODITY[CELL((uint16_t)(head >> 16))];
+    nets->commodity[group][band] += net_of(amounts);
+    totals->commodities += amount_of(amounts);
+    totals->commodities_used |= 1u << group;
+}
+
+/* Takes the match off both of two opposite nets and gives it. */
+static inline uint64_t offset(int64_t *one, int64_t *other) {
+    int64_t match = (*one ^ *other) < 0 ? least(absolute(*one), absolute(*other)) : 0;
+    *one -= *one < 0 ? -match : match;
+    *other -= *other < 0 ? -match : match;
+    return match;
+}
+
+/* Adds the bands' nets up, without their signs and with them. */
+static inline void add(const int64_t *bands, int count, uint64_t *gross, int64_t *net) {
+    *gross = 0, *net = 0;
+    for (int band = 0; band < count; band++) {
+        *gross += absolute(bands[band]);
+        *net += bands[band];
+    }
+}
+
+/* One currency's charge, without 5 for its weighted gross. */
+static inline uint64_t currency(const int64_t *bands) {
+    uint64_t gross[3];
+    int64_t net[3];
+    add(bands, 4, &gross[0], &net[0]);
+    add(bands + 4, 3, &gross[1], &net[1]);
+    add(bands + 7, 8, &gross[2], &net[2]);
+    uint64_t zones = 20 * (gross[0] - absolute(net[0]))
+        + 15 * (gross[1] - absolute(net[1]) + gross[2] - absolute(net[2]));
+    uint64_t near = offset(&net[0], &net[1]);
+    near += offset(&net[1], &net[2]);
+    uint64_t far = offset(&net[0], &net[2]) + absolute(net[0] + net[1] + net[2]);
+    return zones + 40 * near + 100 * far - 5 * (gross[0] + gross[1] + gross[2]);
+}
+
+/* One commodity's charge, without 15,000 for its gross. */
+static inline uint64_t commodity(const int64_t *bands) {
+    uint64_t carried = 0;
+    int64_t net = 0;
+    for (int band = 0; band < 7; band++) {
+        carried += absolute(net);
+        net += bands[band];
+    }
+    return 6000 * carried + 135000 * absolute(net);
+}
+
+static inline void charges(const struct nets *nets, const struct totals *totals, uint64_t *out) {
+    uint64_t interest = 5 * totals->weighted, commodities = 15000 * totals->commodities;
+    uint64_t equity = 0, gross = 0;
+    int64_t net = 0;
+    for (uint32_t used = totals->currencies_used; used; used &= used - 1)
+        interest += currency(nets->interest[__builtin_ctz(used)]);
+    for (uint32_t used = totals->commodities_used; used; used &= used - 1)
+        commodities += commodity(nets->commodity[__builtin_ctz(used)]);
+    for (int group = 0; group < 32; group++) equity += absolute(nets->equity[group]);
+    for (int group = 1; group < 32; group++) {
+        gross += absolute(nets->exchange[group]);
+        net += nets->exchange[group];
+    }
+    out[3] = 100 * totals->interest_specific, out[4] = interest;
+    out[5] = 100 * totals->equity_specific, out[6] = 80000 * equity;
+    out[7] = 80000 * ((gross + absolute(net)) / 2 + absolute(nets->exchange[0]));
+    out[8] = commodities;
+    for (int figure = 3; figure < 9; figure++) out[9] += out[figure];
+}

@@ -1,0 +1,47 @@
+/* The charge call by hand for x86-64, for measuring only: one pass, no branch on an accepted
+ * row, four rows checked at once in SSE2 registers, one signed net for each band. */
+
+#include "tables.h"
+#include "rows.h"
+#include "charges.h"
+
+#define MOST_ROWS 4000
+
+/* Checks and takes the rows of one class, four at a time; leaves with the first bad one. */
+#define EACH(class, take)                                                                    \
+    end += ROW * (counts >> 16 * (class) & 0xffff);                                          \
+    for (; end - row >= 4 * ROW && !bad_four(row, &LIMITS[class]); row += 4 * ROW)           \
+        for (int at = 0; at < 4; at++) take(&nets, &totals, row + ROW * at);                 \
+    for (; row < end; row += ROW) {                                                          \
+        if (bad(row, &LIMITS[class])) {                                                      \
+            out[0] = fault(row, &LIMITS[class]);                                             \
+            out[1] = (row - first) / ROW;                                                    \
+            return;                                                                          \
+        }                                                                                    \
+        take(&nets, &totals, row);                                                           \
+    }
+
+/* Number, row, book; the six charges; the total. */
+void expert_charge(const uint8_t *book, size_t length, uint64_t *out) {
+    memset(out, 0, 10 * sizeof *out);
+    if (length < 8) {
+        out[0] = 1;
+        return;
+    }
+    uint64_t counts = word(book);
+    uint64_t rows = 0;
+    for (int class = 0; class < 4; class++) rows += counts >> 16 * class & 0xffff;
+    if (rows > MOST_ROWS || length != 8 + ROW * rows) {
+        out[0] = rows > MOST_ROWS ? 2 : 3;
+        return;
+    }
+    struct nets nets;
+    struct totals totals = {0};
+    memset(&nets, 0, sizeof nets);
+    const uint8_t *first = book + 8, *row = first, *end = first;
+    EACH(0, take_interest)
+    EACH(1, take_equity)
+    EACH(2, take_exchange)
+    EACH(3, take_commodity)
+    charges(&nets, &totals, out);
+}

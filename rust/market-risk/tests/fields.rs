@@ -1,0 +1,181 @@
+//! Each named field against its entry of the C interface, on books whose entries differ.
+//! Catches two fields that are exchanged, and one that is read from another's entry.
+
+use market_risk::{charge, commodity_ladder, interest_ladder, join, joined, raw, Refusal};
+
+/// A row of 16 bytes with one signed amount: long above zero, short below.
+fn row(group: u8, kind: u8, days: u16, coupon: u16, net: i32) -> [u8; 16] {
+    let mut row = [0; 16];
+    row[..2].copy_from_slice(&[group, kind]);
+    row[2..4].copy_from_slice(&days.to_le_bytes());
+    row[4..6].copy_from_slice(&coupon.to_le_bytes());
+    let at = if net > 0 { 8 } else { 12 };
+    row[at..at + 4].copy_from_slice(&net.unsigned_abs().to_le_bytes());
+    row
+}
+
+/// A book of four bodies.
+fn book(bodies: [&[[u8; 16]]; 4]) -> Vec<u8> {
+    let head = bodies.iter().flat_map(|body| [body.len() as u8, 0]);
+    head.chain(bodies.concat().concat()).collect()
+}
+
+/// A book of government rows of currency 7 at coupon 800, by days and nets.
+fn bonds(nets: [(u16, i32); 8]) -> Vec<u8> {
+    let rows = nets.map(|(days, net)| row(7, 1, days, 800, net));
+    book([&rows, &[], &[], &[]])
+}
+
+/// All zones but 2-3 are matched.
+fn near() -> Vec<u8> {
+    bonds([
+        (60, 10),
+        (60, -4),
+        (150, -1),
+        (270, 100),
+        (600, 2),
+        (900, -6),
+        (1500, 3),
+        (2880, -5),
+    ])
+}
+
+/// All zones but 1-3 are matched.
+fn far() -> Vec<u8> {
+    bonds([
+        (60, 10),
+        (60, -4),
+        (150, -1),
+        (270, 10),
+        (600, 2),
+        (900, -16),
+        (1500, 13),
+        (2880, -5),
+    ])
+}
+
+/// The entries of one book, and the fields that are read from them, in their order.
+type Read = (Vec<u64>, Vec<u64>);
+
+/// Over all books, field number n is entry 3 + n and can be no other; each is somewhere
+/// not zero, and no two of one book are equal.
+fn hold(books: &[Read]) {
+    let [fields, entries] = [books[0].1.len(), books[0].0.len()];
+    assert_eq!(entries, 3 + fields);
+    for (entries, _) in books {
+        let mut sorted = entries[3..].to_vec();
+        sorted.sort_unstable();
+        sorted.dedup();
+        assert_eq!(sorted.len(), fields, "equal figures in {entries:?}");
+    }
+    for field in 0..fields {
+        assert!(books.iter().any(|(_, fields)| fields[field] != 0));
+        let fits = |entry: &usize| {
+            let same = |(entries, fields): &Read| entries[*entry] == fields[field];
+            books.iter().all(same)
+        };
+        let found: Vec<usize> = (0..entries).filter(fits).collect();
+        assert_eq!(found, [3 + field], "field {field}");
+    }
+}
+
+#[test]
+fn report() {
+    // Other, 270 days, 1: 8% is 80,000 mils, 0.70% is 7,000. Diversified, 3: 4% is 120,000,
+    // 8% is 240,000. Gold, 2: 8% is 160,000. Commodity past the last step, 1: 15%.
+    let book = book([
+        &[row(2, 3, 270, 300, 1)],
+        &[row(1, 2, 0, 0, 3)],
+        &[row(0, 0, 0, 0, -2)],
+        &[row(0, 0, 36_000, 0, 1)],
+    ]);
+    let by_hand = [80_000, 7_000, 120_000, 240_000, 160_000, 150_000, 757_000];
+    let mut entries = [0; 10];
+    raw::charge(&book, &mut entries);
+    assert_eq!(entries[3..], by_hand);
+    let report = charge(&book).unwrap();
+    let fields = vec![
+        report.interest_specific,
+        report.interest_general,
+        report.equity_specific,
+        report.equity_general,
+        report.exchange,
+        report.commodity,
+        report.total,
+    ];
+    hold(&[(entries.to_vec(), fields)]);
+}
+
+/// The entries and the fields of currency 7's ladder.
+fn interest(book: &[u8]) -> Read {
+    let mut entries = [0; 13];
+    raw::interest_ladder(book, 7, &mut entries);
+    let ladder = interest_ladder(book, 7).unwrap();
+    let fields = vec![
+        ladder.gross,
+        ladder.vertical,
+        ladder.zones[0],
+        ladder.zones[1],
+        ladder.zones[2],
+        ladder.zones_1_2,
+        ladder.zones_2_3,
+        ladder.zones_1_3,
+        ladder.residual,
+        ladder.charge,
+    ];
+    (entries.to_vec(), fields)
+}
+
+#[test]
+fn interest_ladders() {
+    // A match of zones 1 and 2 uses one of them up, so that two books are needed.
+    // near: bands +200 -80, -40, +7,000 | +250, -1,050 | +825, -1,875.
+    //   Nets 7,080, -800 and -1,050; the first takes 800 and 1,050 and leaves 5,230.
+    // far: bands +200 -80, -40, +700 | +250, -2,800 | +3,575, -1,875.
+    //   Nets 780, -2,550 and 1,700; the second takes 780 and 1,700 and leaves 70.
+    let (near, far) = (interest(&near()), interest(&far()));
+    let by_hand = [11_320, 80, 40, 250, 825, 800, 0, 1_050, 5_230, 694_650];
+    assert_eq!(near.0[3..], by_hand);
+    let by_hand = [9_520, 80, 40, 250, 1_875, 780, 1_700, 0, 70, 172_350];
+    assert_eq!(far.0[3..], by_hand);
+    hold(&[near, far]);
+}
+
+#[test]
+fn commodity_ladders() {
+    // E5, worked in document 01.
+    let rows = [(150, 800), (150, -1000), (600, 600), (1100, -600)];
+    let rows = rows.map(|(days, net)| row(5, 0, days, 0, net));
+    let book = book([&[], &[], &[], &rows]);
+    let mut entries = [0; 7];
+    raw::commodity_ladder(&book, 5, &mut entries);
+    assert_eq!(entries[3..], [1_400, 1_200, 200, 79_200_000]);
+    let ladder = commodity_ladder(&book, 5).unwrap();
+    let fields = vec![
+        ladder.matches,
+        ladder.carried,
+        ladder.residual,
+        ladder.charge,
+    ];
+    hold(&[(entries.to_vec(), fields)]);
+}
+
+#[test]
+fn joins_and_their_refusals() {
+    let (a, b) = (near(), far());
+    let mut out = vec![9; 300];
+    let mut entries = [0; 4];
+    raw::join(&a, &b, &mut out, &mut entries);
+    assert_eq!(entries, [0, 0, 0, 8 + 16 * 16]);
+    let expected = [&[16, 0, 0, 0, 0, 0, 0, 0], &a[8..], &b[8..]].concat();
+    assert_eq!(out[..264], expected);
+    assert_eq!(join(&a, &b, &mut vec![9; 300]), Ok(264));
+    assert_eq!(joined(&a, &b), Ok(expected));
+    // Number, row and book all differ: 36,001 days in row 2 of the second book.
+    let mut bad = b.clone();
+    bad[42..44].copy_from_slice(&36_001u16.to_le_bytes());
+    raw::join(&a, &bad, &mut out, &mut entries);
+    assert_eq!(entries, [6, 2, 1, 0]);
+    let [number, row, book, _] = entries;
+    assert_eq!(joined(&a, &bad), Err(Refusal { number, row, book }));
+}

@@ -1,0 +1,66 @@
+//! Results as the calls lay them out: number, row, book, and then the figures.
+
+use crate::{CommodityLadder, InterestLadder, Joined, Refusal, Report};
+
+/// A refusal and figures, of which there must be as many as the call gives.
+fn laid_out<const N: usize>(refusal: Refusal, figures: &[u64]) -> [u64; N] {
+    let entries = [&refusal.entries(), figures].concat();
+    entries.try_into().expect("as many entries as the call has")
+}
+
+impl Refusal {
+    /// Number, row, book.
+    pub fn entries(&self) -> [u64; 3] {
+        [self.number, self.row, self.book]
+    }
+}
+
+impl Report {
+    /// The refusal, the six charges and the total.
+    pub fn entries(&self) -> [u64; 10] {
+        let figures = [
+            self.interest_specific,
+            self.interest_general,
+            self.equity_specific,
+            self.equity_general,
+            self.exchange,
+            self.commodity,
+            self.total,
+        ];
+        laid_out(self.refusal, &figures)
+    }
+}
+
+impl InterestLadder {
+    /// The refusal, gross, the seven match sums, the residual and the charge.
+    pub fn entries(&self) -> [u64; 13] {
+        let figures = [
+            self.gross,
+            self.vertical,
+            self.zone_1,
+            self.zone_2,
+            self.zone_3,
+            self.zones_1_2,
+            self.zones_2_3,
+            self.zones_1_3,
+            self.residual,
+            self.charge,
+        ];
+        laid_out(self.refusal, &figures)
+    }
+}
+
+impl CommodityLadder {
+    /// The refusal, matches, carried, residual and charge.
+    pub fn entries(&self) -> [u64; 7] {
+        let figures = [self.matches, self.carried, self.residual, self.charge];
+        laid_out(self.refusal, &figures)
+    }
+}
+
+impl Joined {
+    /// The refusal and the length.
+    pub fn entries(&self) -> [u64; 4] {
+        laid_out(self.refusal, &[self.length])
+    }
+}

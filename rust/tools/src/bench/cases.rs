@@ -1,0 +1,143 @@
+//! The books that are timed.
+
+use books::generate::{row, Shape};
+use books::{Book, Random, CLASSES, ROW_BYTES};
+
+/// Books of one sort, and pairs of books that have as many rows together.
+pub struct Case {
+    pub name: &'static str,
+    pub rows: usize,
+    pub books: Vec<Vec<u8>>,
+    pub pairs: [Vec<Vec<u8>>; 2],
+}
+
+/// The sorts: their names, their rows, and the classes that rows are taken from in turn.
+const SORTS: [(&str, usize, &[usize]); 8] = [
+    ("no rows", 0, &[0]),
+    ("interest", 400, &[0]),
+    ("equity", 400, &[1]),
+    ("fx", 400, &[2]),
+    ("commodity", 400, &[3]),
+    ("all classes", 40, &[0, 1, 2, 3]),
+    ("all classes", 400, &[0, 1, 2, 3]),
+    ("all classes", 4_000, &[0, 1, 2, 3]),
+];
+
+/// How many books of a sort there are: a power of two, 16 to 128. So many keep the processor
+/// from learning the branches of each, and they stay in its cache.
+fn count(rows: usize) -> u64 {
+    (64_000 / rows.max(1)).clamp(16, 128).next_power_of_two() as u64
+}
+
+/// An accepted book with rows of these classes in all groups.
+fn book(seed: u64, rows: usize, classes: &[usize]) -> Vec<u8> {
+    let mut random = Random::of_case(rows as u64, seed);
+    let shape = Shape {
+        rows,
+        groups: (0..32).collect(),
+        without: None,
+    };
+    let mut book = Book::default();
+    for at in 0..rows {
+        let class = classes[at % classes.len()];
+        book.classes[class].push(row(&mut random, class, &shape));
+    }
+    book.encode().expect("at most 4,000 rows")
+}
+
+/// Books of a sort; those of another series have other rows.
+fn series(number: u64, of: usize, rows: usize, classes: &[usize]) -> Vec<Vec<u8>> {
+    let seeds = (0..count(of)).map(|at| 1_000 * number + at);
+    seeds.map(|seed| book(seed, rows, classes)).collect()
+}
+
+/// A case of accepted books.
+fn accepted(name: &'static str, rows: usize, classes: &[usize]) -> Case {
+    let half = rows / 2;
+    Case {
+        name,
+        rows,
+        books: series(0, rows, rows, classes),
+        pairs: [1, 2].map(|number| series(number, rows, half, classes)),
+    }
+}
+
+/// Makes the amount of a book's last row too large: the last fault that is looked for.
+fn spoil(book: &mut [u8]) {
+    let at = book.len() - ROW_BYTES;
+    for side in [8, 12] {
+        let amount = &mut book[at + side..at + side + 4];
+        let given = amount.iter().any(|byte| *byte != 0);
+        amount.fill(if given { 0xff } else { 0 });
+    }
+}
+
+/// A case of books, and of second books of a pair, that are refused at the last row.
+fn refused() -> Case {
+    let all: Vec<usize> = (0..CLASSES).collect();
+    let mut case = accepted("refused, last row", 400, &all);
+    let books = case.books.iter_mut().chain(&mut case.pairs[1]);
+    books.for_each(|book| spoil(book));
+    case
+}
+
+/// All cases, in the order of the tables.
+pub fn cases() -> Vec<Case> {
+    let sorts = SORTS.iter();
+    let accepted = sorts.map(|(name, rows, classes)| accepted(name, *rows, classes));
+    accepted.chain([refused()]).collect()
+}
+
+#[cfg(test)]
+mod tests {
+    use super::*;
+    use books::names::CLASS_NAMES;
+
+    /// The rows of each class that a line with this name and so many rows is about.
+    fn named(name: &str, rows: usize) -> [usize; CLASSES] {
+        let all = name == "all classes";
+        CLASS_NAMES.map(|class| match class == name {
+            true => rows,
+            false => rows / CLASSES * usize::from(all),
+        })
+    }
+
+    /// Catches a line whose books are not those that it names.
+    #[test]
+    fn books_are_what_their_lines_say() {
+        let cases = cases();
+        for case in &cases[..SORTS.len()] {
+            let rows = |bytes: &[u8]| Book::decode(bytes).unwrap().classes.map(|rows| rows.len());
+            let expected = named(case.name, case.rows);
+            for book in &case.books {
+                assert!(market_risk::check(book).is_ok());
+                assert_eq!(rows(book), expected, "{}", case.name);
+            }
+            for (a, b) in case.pairs[0].iter().zip(&case.pairs[1]) {
+                let joined = market_risk::joined(a, b).unwrap();
+                assert_eq!(rows(&joined), expected, "{}", case.name);
+            }
+        }
+    }
+
+    #[test]
+    fn refused_books_are_refused_at_the_last_row() {
+        let case = refused();
+        for book in &case.books {
+            let refusal = market_risk::check(book).unwrap_err();
+            assert_eq!((refusal.number, refusal.row), (9, 399));
+        }
+        for (a, b) in case.pairs[0].iter().zip(&case.pairs[1]) {
+            let refusal = market_risk::joined(a, b).unwrap_err();
+            assert_eq!((refusal.number, refusal.row, refusal.book), (9, 199, 1));
+        }
+    }
+
+    #[test]
+    fn the_numbers_of_books_are_powers_of_two() {
+        for case in cases() {
+            let lists = [&case.books, &case.pairs[0], &case.pairs[1]];
+            assert!(lists.iter().all(|list| list.len().is_power_of_two()));
+        }
+    }
+}

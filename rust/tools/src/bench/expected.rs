@@ -1,0 +1,43 @@
+//! What a call must answer on each book of a case, found apart from the work that is timed.
+
+use super::cases::Case;
+use super::work::{Answer, GROUPS, OLD_BYTE};
+use std::rc::Rc;
+
+/// The answers of a call on a book, with each group at least once.
+pub fn expected<F, const N: usize>(case: &Case, call: F) -> Rc<[Answer]>
+where
+    F: Fn(&[u8], usize, &mut [u64; N]),
+{
+    let answer = |at: usize| {
+        let mut entries = [0; N];
+        let book = &case.books[at % case.books.len()];
+        call(book, at % GROUPS, &mut entries);
+        Answer {
+            entries: entries.to_vec(),
+            output: Vec::new(),
+        }
+    };
+    (0..case.books.len().max(GROUPS)).map(answer).collect()
+}
+
+/// The answers of a call on a pair of books, with an output that holds what it held before.
+pub fn expected_of_pairs<F>(case: &Case, call: F) -> Rc<[Answer]>
+where
+    F: Fn(&[u8], &[u8], &mut [u8], &mut [u64; 4]),
+{
+    let answer = |(a, b): (&Vec<u8>, &Vec<u8>)| {
+        let mut entries = [0; 4];
+        let mut output = vec![OLD_BYTE; a.len() + b.len() - 8];
+        call(a, b, &mut output, &mut entries);
+        Answer {
+            entries: entries.to_vec(),
+            output,
+        }
+    };
+    case.pairs[0]
+        .iter()
+        .zip(&case.pairs[1])
+        .map(answer)
+        .collect()
+}

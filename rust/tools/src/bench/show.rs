@@ -1,0 +1,86 @@
+//! The tables of a run.
+
+use super::cases::Case;
+use super::sides::Call;
+use super::timed::{Clock, Timed};
+use crate::cli::Failure;
+use crate::text::{table, whole};
+
+/// One line: a case, and all that is timed on it, the proved library first.
+pub struct Line<'a> {
+    pub book: &'static str,
+    pub rows: usize,
+    pub timed: Vec<Timed<'a>>,
+}
+
+/// The lines of one call.
+pub struct Table<'a> {
+    pub call: &'static str,
+    pub lines: Vec<Line<'a>>,
+}
+
+/// The proved library's time as so many of the other's: below 1 it is the faster one.
+fn ratio(proved: f64, other: f64) -> f64 {
+    proved / other
+}
+
+impl<'a> Table<'a> {
+    /// A call on every case.
+    pub fn new(call: &Call, cases: &'a [Case]) -> Result<Table<'a>, Failure> {
+        let line = |case: &'a Case| {
+            Ok(Line {
+                book: case.name,
+                rows: case.rows,
+                timed: (call.sides)(case)?,
+            })
+        };
+        Ok(Table {
+            call: call.name,
+            lines: cases.iter().map(line).collect::<Result<_, _>>()?,
+        })
+    }
+
+    /// Does one thing with all that is timed, line by line.
+    fn each(&mut self, act: impl Fn(&mut Timed) -> Result<(), Failure>) -> Result<(), Failure> {
+        let timed = self.lines.iter_mut().flat_map(|line| &mut line.timed);
+        timed.map(act).collect()
+    }
+
+    /// Finds how often each thing is done in a measurement.
+    pub fn settle(&mut self, clock: Clock) -> Result<(), Failure> {
+        self.each(|timed| timed.settle(clock))
+    }
+
+    /// Measures each thing once.
+    pub fn round(&mut self, clock: Clock) -> Result<(), Failure> {
+        self.each(|timed| timed.round(clock))
+    }
+
+    /// The table as text: times of one call in nanoseconds, then ratios.
+    pub fn text(&self) -> String {
+        let mut lines = vec![titles(self.call, &self.lines[0].timed)];
+        lines.extend(self.lines.iter().map(cells));
+        table(&lines)
+    }
+}
+
+/// The head of a table.
+fn titles(call: &str, timed: &[Timed]) -> Vec<String> {
+    let (proved, others) = (timed[0].name, &timed[1..]);
+    let times = timed.iter().map(|side| format!("{} ns", side.name));
+    let ratios = others
+        .iter()
+        .map(|side| format!("{proved} / {}", side.name));
+    let first = [call.to_string(), "rows".to_string()];
+    first.into_iter().chain(times).chain(ratios).collect()
+}
+
+/// The cells of a line.
+fn cells(line: &Line) -> Vec<String> {
+    let medians: Vec<f64> = line.timed.iter().map(Timed::median).collect();
+    let times = medians.iter().map(|median| format!("{median:.1}"));
+    let ratios = medians[1..].iter().map(|other| ratio(medians[0], *other));
+    let first = [line.book.to_string(), whole(line.rows as i128)];
+    let ratios = ratios.map(|ratio| format!("{ratio:.2}"));
+    first.into_iter().chain(times).chain(ratios).collect()
+}

@@ -1,0 +1,120 @@
+//! Who is timed for each call: the proved library first, then others and a floor.
+
+use super::cases::Case;
+use super::expected::{expected, expected_of_pairs};
+use super::floors::{copy, copy_bytes, sum_bytes, sum_words};
+use super::timed::Timed;
+use super::work::{of_book, of_group, of_pair, Answer, Work};
+use crate::calls::{Calls, Second};
+use crate::cli::Failure;
+use market_risk::raw;
+use std::rc::Rc;
+
+/// All that is timed of one call on one case.
+type Sides<'a> = Result<Vec<Timed<'a>>, Failure>;
+
+/// One side: its name, its work and what it must answer.
+type Side<'a> = (&'static str, Box<dyn Work + 'a>, Rc<[Answer]>);
+
+/// A call, and how its sides are made.
+pub struct Call {
+    pub name: &'static str,
+    pub sides: fn(&Case) -> Sides,
+}
+
+/// The calls, in the order of the tables.
+pub const CALLS: [Call; 5] = [
+    Call {
+        name: "check",
+        sides: check,
+    },
+    Call {
+        name: "charge",
+        sides: charge,
+    },
+    Call {
+        name: "interest ladder",
+        sides: interest_ladder,
+    },
+    Call {
+        name: "commodity ladder",
+        sides: commodity_ladder,
+    },
+    Call {
+        name: "join",
+        sides: join,
+    },
+];
+
+/// Every side, compared with what it must answer.
+fn compared<'a>(sides: Vec<Side<'a>>) -> Sides<'a> {
+    let timed = |(name, work, expected)| Timed::new(name, work, expected);
+    sides.into_iter().map(timed).collect()
+}
+
+/// The floor of the calls on one book.
+fn words(case: &Case) -> Side<'_> {
+    let expected = expected(case, |book, _, out| sum_bytes(book, out));
+    ("words", of_book(&case.books, sum_words), expected)
+}
+
+fn check(case: &Case) -> Sides<'_> {
+    let books = &case.books;
+    let expected = expected(case, |book, _, out| Second.check(book, out));
+    compared(vec![
+        ("proved", of_book(books, raw::check), expected.clone()),
+        ("Rust", of_book(books, fast::check), expected),
+        words(case),
+    ])
+}
+
+fn charge(case: &Case) -> Sides<'_> {
+    let books = &case.books;
+    let expected = expected(case, |book, _, out| Second.charge(book, out));
+    let mut sides = vec![
+        ("proved", of_book(books, raw::charge), expected.clone()),
+        ("Rust", of_book(books, fast::charge), expected.clone()),
+    ];
+    if let Some(expert) = fast::expert_charge() {
+        sides.push(("C", of_book(books, expert), expected));
+    }
+    sides.push(words(case));
+    compared(sides)
+}
+
+fn interest_ladder(case: &Case) -> Sides<'_> {
+    let books = &case.books;
+    let expected = expected(case, |book, group, out| {
+        Second.interest_ladder(book, group, out)
+    });
+    let proved = of_group(books, raw::interest_ladder);
+    compared(vec![
+        ("proved", proved, expected.clone()),
+        ("Rust", of_group(books, fast::interest_ladder), expected),
+        words(case),
+    ])
+}
+
+fn commodity_ladder(case: &Case) -> Sides<'_> {
+    let books = &case.books;
+    let expected = expected(case, |book, group, out| {
+        Second.commodity_ladder(book, group, out)
+    });
+    let proved = of_group(books, raw::commodity_ladder);
+    compared(vec![
+        ("proved", proved, expected.clone()),
+        ("Rust", of_group(books, fast::commodity_ladder), expected),
+        words(case),
+    ])
+}
+
+fn join(case: &Case) -> Sides<'_> {
+    let pairs = &case.pairs;
+    let expected = expected_of_pairs(case, |a, b, out, result| Second.join(a, b, out, result));
+    let copied = expected_of_pairs(case, copy_bytes);
+    compared(vec![
+        ("proved", of_pair(pairs, raw::join), expected.clone()),
+        ("Rust", of_pair(pairs, fast::join), expected),
+        ("copy", of_pair(pairs, copy), copied),
+    ])
+}

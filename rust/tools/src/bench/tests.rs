@@ -1,0 +1,141 @@
+//! What could be wrong with a benchmark, done on purpose. No test depends on the time that
+//! anything takes.
+
+use super::cases::cases;
+use super::fake::{answer, expected, World};
+use super::show::{Line, Table};
+use super::sides::CALLS;
+use super::timed::{Clock, Timed};
+use super::work::of_book;
+use std::cell::Cell;
+use std::time::Duration;
+
+/// Catches a call that is left out: its result stays what it was before.
+#[test]
+fn a_call_that_is_not_run_is_told() {
+    let world = World::default();
+    assert!(Timed::new("lazy", world.fake(1, 1), expected()).is_err());
+    let books = [vec![0; 8]];
+    let nothing = of_book(&books, |_, _: &mut [u64; 1]| ());
+    assert!(Timed::new("nothing", nothing, [answer(0)].into()).is_err());
+}
+
+/// Catches a call that runs when its result is compared and not when it is timed.
+#[test]
+fn a_call_that_stops_running_is_told() {
+    let world = World::default();
+    let clock: Clock = &|| Duration::from_nanos(world.now.get());
+    let mut timed = Timed::new("lazy", world.fake(100_000, 6), expected()).unwrap();
+    assert!(timed.round(clock).is_ok());
+    assert!(timed.round(clock).is_err());
+}
+
+/// Catches a figure that is not the expected one.
+#[test]
+fn a_wrong_figure_is_told() {
+    let books = [vec![0; 8]];
+    let wrong = of_book(&books, |_, out: &mut [u64; 1]| out[0] = 8);
+    assert!(Timed::new("wrong", wrong, [answer(7)].into()).is_err());
+}
+
+/// Catches a measurement that leaves runs out, and one divided by another number of runs.
+#[test]
+fn every_run_is_in_the_time() {
+    let world = World::default();
+    let clock: Clock = &|| Duration::from_nanos(world.now.get());
+    let mut timed = world.timed("fake", 1_000);
+    assert_eq!(world.runs.get(), 4);
+    timed.settle(clock).unwrap();
+    // 1, 2, 4 ... 256 runs: the first measurement of 200 microseconds has 256.
+    assert_eq!(world.runs.get(), 4 + 511);
+    timed.round(clock).unwrap();
+    assert_eq!(world.runs.get(), 4 + 511 + 256);
+    assert_eq!(timed.median(), 1_000.0);
+}
+
+/// Catches another time than the median of the rounds.
+#[test]
+fn the_median_is_the_middle_one() {
+    let world = World::default();
+    let mut timed = world.timed("fake", 0);
+    for time in [9, 1, 5] {
+        let asked = Cell::new(0);
+        timed
+            .round(&|| Duration::from_nanos(time * asked.replace(1)))
+            .unwrap();
+    }
+    assert_eq!(timed.median(), 5.0);
+}
+
+/// Catches an inverted ratio, and a column under another's title.
+#[test]
+fn ratios_are_proved_by_other() {
+    let world = World::default();
+    let clock: Clock = &|| Duration::from_nanos(world.now.get());
+    let line = Line {
+        book: "any",
+        rows: 4_000,
+        timed: vec![world.timed("proved", 300), world.timed("other", 100)],
+    };
+    let mut table = Table {
+        call: "call",
+        lines: vec![line],
+    };
+    table.settle(clock).unwrap();
+    table.round(clock).unwrap();
+    let text = table.text();
+    let lines: Vec<Vec<&str>> = text
+        .lines()
+        .map(|line| {
+            line.split("  ")
+                .filter(|cell| !cell.is_empty())
+                .map(str::trim)
+                .collect()
+        })
+        .collect();
+    let titles = ["call", "rows", "proved ns", "other ns", "proved / other"];
+    assert_eq!(lines[0], titles);
+    assert_eq!(lines[1], ["any", "4,000", "300.0", "100.0", "3.00"]);
+}
+
+/// Catches another call, or another's call, under a name: the compiler names what is run.
+#[test]
+fn each_name_times_its_own_call() {
+    let functions = [
+        "check",
+        "charge",
+        "interest_ladder",
+        "commodity_ladder",
+        "join",
+    ];
+    let cases = cases();
+    for (call, function) in CALLS.iter().zip(functions) {
+        assert_eq!(call.name.replace(' ', "_"), function);
+        for case in &cases[5..6] {
+            for side in (call.sides)(case).unwrap() {
+                let path = match side.name {
+                    "proved" => format!("market_risk::raw::{function}"),
+                    "Rust" if function == "join" => "fast::join::join".to_string(),
+                    "Rust" => format!("fast::{function}"),
+                    "C" => format!("fast::expert::{function}"),
+                    "words" => "market_risk::bench::floors::sum_words".to_string(),
+                    _ => "market_risk::bench::floors::copy".to_string(),
+                };
+                assert_eq!(side.path(), path);
+            }
+        }
+    }
+}
+
+/// Catches a side that is missing or stands in another's place: ratios are to the first.
+#[test]
+fn the_proved_library_comes_first() {
+    let cases = cases();
+    for call in &CALLS {
+        let sides = (call.sides)(&cases[0]).unwrap();
+        let names: Vec<&str> = sides.iter().map(|side| side.name).collect();
+        let floor = if call.name == "join" { "copy" } else { "words" };
+        let named = names.iter().copied().filter(|name| *name != "C");
+        assert!(named.eq(["proved", "Rust", floor]), "{names:?}");
+    }
+}

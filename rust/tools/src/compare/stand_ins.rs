@@ -1,0 +1,142 @@
+//! Runs with calculations that are none, or not all of one: each must fail.
+
+use super::case::Case;
+use super::run::{Run, DEFAULT_COUNT};
+use crate::calls::{Calls, Proved, Second};
+use crate::cli::{Args, Failure};
+
+/// The five calls.
+#[derive(Clone, Copy, Debug, PartialEq)]
+enum Call {
+    Check,
+    Charge,
+    InterestLadder,
+    CommodityLadder,
+    Join,
+}
+
+const CALLS: [Call; 5] = [
+    Call::Check,
+    Call::Charge,
+    Call::InterestLadder,
+    Call::CommodityLadder,
+    Call::Join,
+];
+
+/// The second calculation, but for some calls: these write zeros, or nothing at all.
+struct StandIn<'a> {
+    without: &'a [Call],
+    zeros: bool,
+}
+
+impl StandIn<'_> {
+    /// Answers a call, or writes what a stand-in writes.
+    fn answer<const N: usize>(&self, call: Call, out: &mut [u64; N], real: impl Fn(&mut [u64; N])) {
+        match (self.without.contains(&call), self.zeros) {
+            (false, _) => real(out),
+            (true, true) => out.fill(0),
+            (true, false) => (),
+        }
+    }
+}
+
+impl Calls for StandIn<'_> {
+    fn name(&self) -> &'static str {
+        "a stand-in"
+    }
+    fn check(&self, book: &[u8], out: &mut [u64; 3]) {
+        self.answer(Call::Check, out, |out| Second.check(book, out));
+    }
+    fn charge(&self, book: &[u8], out: &mut [u64; 10]) {
+        self.answer(Call::Charge, out, |out| Second.charge(book, out));
+    }
+    fn interest_ladder(&self, book: &[u8], group: usize, out: &mut [u64; 13]) {
+        let real = |out: &mut [u64; 13]| Second.interest_ladder(book, group, out);
+        self.answer(Call::InterestLadder, out, real);
+    }
+    fn commodity_ladder(&self, book: &[u8], group: usize, out: &mut [u64; 7]) {
+        let real = |out: &mut [u64; 7]| Second.commodity_ladder(book, group, out);
+        self.answer(Call::CommodityLadder, out, real);
+    }
+    fn join(&self, a: &[u8], b: &[u8], out: &mut [u8], result: &mut [u64; 4]) {
+        match (self.without.contains(&Call::Join), self.zeros) {
+            (false, _) => Second.join(a, b, out, result),
+            (true, true) => result.fill(0),
+            (true, false) => (),
+        }
+    }
+}
+
+/// A run of so many random cases.
+fn run<'a>(library: &'a dyn Calls, other: &'a dyn Calls, count: u64) -> Run<'a> {
+    Run {
+        library,
+        other,
+        cases: Case::new,
+        seed: 1,
+        first: 0,
+        count,
+    }
+}
+
+/// How a run fails, which it must, with exit status 1.
+fn failure(run: &Run) -> String {
+    let Err(Failure { status, message }) = run.outcome() else {
+        panic!("the run does not fail");
+    };
+    assert_eq!(status, 1);
+    message
+}
+
+/// Catches a comparison that looks at one calculation alone, or leaves a call out: a
+/// library without some call fails in either place.
+#[test]
+fn zeros_and_kept_results_are_differences() {
+    let alone = CALLS.map(|call| vec![call]);
+    for without in alone.iter().chain([&CALLS.to_vec()]) {
+        for zeros in [true, false] {
+            let library = StandIn { without, zeros };
+            let first = failure(&run(&library, &Second, 300));
+            let last = failure(&run(&Second, &library, 300));
+            assert!(first.contains(" differs\n"), "{without:?}: {first}");
+            assert!(first.contains("a stand-in"), "{without:?}: {first}");
+            assert!(last.contains(" differs\n"), "{without:?}: {last}");
+        }
+    }
+}
+
+/// Catches a command that compares the second calculation with itself.
+#[test]
+fn the_command_compares_the_proved_library_with_the_second_calculation() {
+    let asked = Run::asked(&Args::default()).unwrap();
+    assert_eq!(asked.library.name(), "the proved library");
+    assert_eq!(asked.library.name(), Proved.name());
+    assert_eq!(asked.other.name(), "the second calculation");
+    assert_eq!(asked.other.name(), Second.name());
+    assert_eq!(asked.count, DEFAULT_COUNT);
+    let itself = failure(&run(&Second, &Second, 1));
+    assert_eq!(itself, "the second calculation is compared with itself");
+}
+
+/// Catches cases that are all alike: nothing differs, and nothing was seen either.
+#[test]
+fn a_run_that_has_seen_too_little_fails() {
+    let none = StandIn {
+        without: &[],
+        zeros: true,
+    };
+    let mut empty = run(&none, &Second, DEFAULT_COUNT);
+    empty.cases = |_, _| Case {
+        a: vec![0; 8],
+        b: vec![0; 8],
+        group: 0,
+        room: 8,
+        order: 0,
+    };
+    let message = failure(&empty);
+    assert!(message.starts_with("20000 pairs have shown too little\n"));
+    assert!(message.contains("\nbooks refused 9: 0 where at least 150 are wanted\n"));
+    assert!(!message.contains("books accepted"), "{message}");
+    empty.count = 50;
+    assert!(empty.outcome().is_ok());
+}

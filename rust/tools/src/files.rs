@@ -1,0 +1,187 @@
+//! Files as commands use them: read whole, written whole or not at all, - for standard
+//! input and output, and no output over an input.
+
+use crate::cli::{no, usage, Failure, Outcome};
+use std::fs::{self, File, Metadata, OpenOptions, Permissions};
+use std::io::{self, Read, Write};
+use std::os::fd::AsFd;
+use std::os::unix::fs::MetadataExt;
+use std::path::{Path, PathBuf};
+
+/// Whether a name stands for standard input or output.
+fn standard(path: &Path) -> bool {
+    path.as_os_str() == "-"
+}
+
+/// A file that is read, as messages name it.
+pub fn input(path: &Path) -> String {
+    match standard(path) {
+        true => "standard input".into(),
+        false => path.display().to_string(),
+    }
+}
+
+/// A file that is written, as messages name it.
+fn output(path: &Path) -> String {
+    match standard(path) {
+        true => "standard output".into(),
+        false => path.display().to_string(),
+    }
+}
+
+/// The bytes of a file, or of standard input for -.
+pub fn read(path: impl AsRef<Path>) -> Result<Vec<u8>, Failure> {
+    let path = path.as_ref();
+    let mut bytes = Vec::new();
+    let done = match standard(path) {
+        true => io::stdin().read_to_end(&mut bytes).map(|_| bytes),
+        false => fs::read(path),
+    };
+    done.map_err(|error| usage(&format!("{}: {error}", input(path))))
+}
+
+/// Whether bytes begin with a line of text that has a comma. No book does: eight
+/// printable bytes are counts of 8,224 rows or more, and 4,000 are the most.
+fn looks_like_csv(bytes: &[u8]) -> bool {
+    let first = bytes.split(|byte| *byte == b'\n').next().unwrap_or(bytes);
+    let line = first.trim_ascii_end();
+    let text = line.iter().all(|byte| !byte.is_ascii_control());
+    text && line.len() >= 8 && line.contains(&b',')
+}
+
+/// The bytes of a book, accepted or not; CSV text is told apart from one.
+pub fn read_book(path: &Path) -> Result<Vec<u8>, Failure> {
+    let bytes = read(path)?;
+    match looks_like_csv(&bytes) {
+        true => Err(no(format!(
+            "{}: looks like CSV text, not a book; make a book of it with market-risk pack first",
+            input(path)
+        ))),
+        false => Ok(bytes),
+    }
+}
+
+/// What the system knows of an open stream.
+fn about(stream: impl AsFd) -> Option<Metadata> {
+    let own = stream.as_fd().try_clone_to_owned().ok()?;
+    File::from(own).metadata().ok()
+}
+
+/// Whether both are one file, by whatever path or link.
+fn same(one: &Option<Metadata>, other: &Option<Metadata>) -> bool {
+    let key = |file: &Metadata| (file.dev(), file.ino());
+    one.is_some() && one.as_ref().map(key) == other.as_ref().map(key)
+}
+
+/// Refuses an output that is the file of an input, which would be lost. Terminals and
+/// pipes may be both.
+pub fn apart(to: &Path, inputs: &[&Path]) -> Outcome {
+    let written = match standard(to) {
+        true => about(io::stdout()),
+        false => fs::metadata(to).ok(),
+    };
+    let written = written.filter(Metadata::is_file);
+    let read = |path: &Path| match standard(path) {
+        true => about(io::stdin()),
+        false => fs::metadata(path).ok(),
+    };
+    match inputs.iter().find(|path| same(&written, &read(path))) {
+        Some(path) => Err(usage(&format!(
+            "{} and {} are one file, which would be overwritten; name another output",
+            input(path),
+            output(to)
+        ))),
+        None => Ok(()),
+    }
+}
+
+/// Writes a file, or standard output for -.
+pub fn write(path: impl AsRef<Path>, bytes: &[u8]) -> Outcome {
+    let path = path.as_ref();
+    let there = fs::metadata(path).ok();
+    let done = if standard(path) || same(&there, &about(io::stdout())) {
+        emit(bytes)
+    } else if there.is_some_and(|file| !file.is_file()) {
+        fs::write(path, bytes) // a device or a pipe stays what it is
+    } else {
+        replace(path, bytes)
+    };
+    done.map_err(|error| usage(&format!("{}: {error}", output(path))))
+}
+
+/// Writes text to standard output.
+pub fn print(text: &str) -> Outcome {
+    write("-", text.as_bytes())
+}
+
+/// Writes all bytes to standard output, out of the buffer too.
+fn emit(bytes: &[u8]) -> io::Result<()> {
+    let mut out = io::stdout().lock();
+    out.write_all(bytes)?;
+    out.flush()
+}
+
+/// The file that a link leads to, which need not be there yet; else the path itself.
+fn behind(path: &Path) -> PathBuf {
+    let beside = |to: PathBuf| path.parent().unwrap_or(Path::new("")).join(to);
+    fs::canonicalize(path)
+        .or_else(|_| fs::read_link(path).map(beside))
+        .unwrap_or_else(|_| path.to_path_buf())
+}
+
+/// The permissions of a file that may be written, or none where there is no file.
+fn permissions(path: &Path) -> io::Result<Option<Permissions>> {
+    match OpenOptions::new().write(true).open(path) {
+        Ok(file) => Ok(Some(file.metadata()?.permissions())),
+        Err(error) if error.kind() == io::ErrorKind::NotFound => Ok(None),
+        Err(error) => Err(error),
+    }
+}
+
+/// A new file in a folder.
+fn fresh(folder: &Path) -> io::Result<(PathBuf, File)> {
+    let mut number = 0;
+    loop {
+        let name = format!(".market-risk-{}-{number}.part", std::process::id());
+        let path = folder.join(name);
+        match File::create_new(&path) {
+            Err(error) if error.kind() == io::ErrorKind::AlreadyExists => number += 1,
+            done => return done.map(|file| (path, file)),
+        }
+    }
+}
+
+/// Writes a new file beside the target, which takes its name once it is whole; a write
+/// that fails leaves the target as it was and nothing beside it.
+fn replace(path: &Path, bytes: &[u8]) -> io::Result<()> {
+    let target = behind(path);
+    let old = permissions(&target)?;
+    let (part, mut file) = fresh(target.parent().unwrap_or(Path::new("")))?;
+    let fill = || {
+        file.write_all(bytes)?;
+        old.map_or(Ok(()), |old| file.set_permissions(old))?;
+        file.sync_all()?;
+        fs::rename(&part, &target)
+    };
+    fill().inspect_err(|_| drop(fs::remove_file(&part)))
+}
+
+#[cfg(test)]
+mod tests {
+    use super::*;
+
+    #[test]
+    fn csv_text_is_told_from_books() {
+        for text in [
+            "class,group,kind\r\nfx,1",
+            "\u{feff}class,group",
+            "fx,1,none",
+        ] {
+            assert!(looks_like_csv(text.as_bytes()), "{text}");
+        }
+        let books: [&[u8]; 5] = [b"", b"a,b\n", b",\nabcdef", b"abcdefgh", b"a,b\0cdefgh"];
+        for book in books {
+            assert!(!looks_like_csv(book), "{book:?}");
+        }
+    }
+}

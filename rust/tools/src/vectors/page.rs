@@ -1,0 +1,127 @@
+//! docs/VECTORS.md against what is stored in crates/vectors: a reader as the page
+//! describes it, and the sizes that it states.
+
+use super::build::{Call, Case};
+use std::collections::HashSet;
+
+/// What is left of a stream.
+struct Reader<'a> {
+    rest: &'a [u8],
+}
+
+impl Reader<'_> {
+    fn take(&mut self, count: usize) -> Vec<u8> {
+        let (taken, rest) = self.rest.split_at(count);
+        self.rest = rest;
+        taken.to_vec()
+    }
+
+    fn number(&mut self, bytes: usize) -> usize {
+        let bytes = self.take(bytes);
+        bytes
+            .iter()
+            .rev()
+            .fold(0, |high, byte| high * 256 + usize::from(*byte))
+    }
+
+    fn book(&mut self, length: usize, runs: bool) -> Vec<u8> {
+        if !runs {
+            return self.take(length);
+        }
+        let mut book = self.take(8);
+        while book.len() < length {
+            let count = self.number(2);
+            let row = self.take(16);
+            book.extend(row.repeat(count));
+        }
+        assert_eq!(book.len(), length);
+        book
+    }
+
+    fn case(&mut self) -> Option<Case> {
+        let tag = self.number(1);
+        let (runs, tag) = (tag & 0x80 != 0, tag & 0x7f);
+        if tag == 0 {
+            return None;
+        }
+        if tag == 5 {
+            let (room, a, b) = (self.number(4), self.number(4), self.number(4));
+            let (book, other) = (self.book(a, runs), self.book(b, runs));
+            let room = room as u32;
+            return Some(Case {
+                call: Call::Join { other, room },
+                book,
+            });
+        }
+        let (group, length) = (self.number(2) as u16, self.number(4));
+        let call = match tag {
+            1 => Call::Check,
+            2 => Call::Charge,
+            3 => Call::InterestLadder(group),
+            4 => Call::CommodityLadder(group),
+            _ => panic!("no tag {tag}"),
+        };
+        Some(Case {
+            call,
+            book: self.book(length, runs),
+        })
+    }
+}
+
+/// The calls of a stream, of which nothing may be left.
+pub fn read(stream: &[u8]) -> Vec<Case> {
+    let mut reader = Reader { rest: stream };
+    let cases = std::iter::from_fn(|| reader.case()).collect();
+    assert!(reader.rest.is_empty());
+    cases
+}
+
+/// The different books of some calls.
+fn books(cases: &[Case]) -> usize {
+    let others = cases.iter().filter_map(|case| match &case.call {
+        Call::Join { other, .. } => Some(other),
+        _ => None,
+    });
+    let books = cases.iter().map(|case| &case.book);
+    books.chain(others).collect::<HashSet<_>>().len()
+}
+
+/// A file of the repository.
+fn stored(path: &str) -> Vec<u8> {
+    std::fs::read(format!("{}/../../{path}", env!("CARGO_MANIFEST_DIR"))).unwrap()
+}
+
+/// A number as the page writes it.
+fn thousands(number: usize) -> String {
+    crate::text::whole(number as u64)
+}
+
+/// Catches a page whose sizes are no longer those of the stored files.
+#[test]
+fn the_page_states_the_sizes_of_what_is_stored() {
+    let (stdin, stdout) = (
+        stored("crates/vectors/stdin"),
+        stored("crates/vectors/stdout"),
+    );
+    let cases = read(&stdin);
+    let lines = stdout.iter().filter(|byte| **byte == b'\n').count();
+    assert_eq!(cases.len(), lines);
+    let [calls, books] = [cases.len(), books(&cases)].map(thousands);
+    let [read, written] = [stdin.len(), stdout.len()].map(thousands);
+    let stated = format!(
+        "{calls} calls on {books} different books: `stdin` has {read} bytes and `stdout` {written}."
+    );
+    let page = String::from_utf8(stored("docs/VECTORS.md")).unwrap();
+    assert_eq!(page.matches(&stated).count(), 1, "{stated}");
+    let random = format!("- {} random books of the seed,", super::random::BOOKS);
+    assert_eq!(page.matches(&random).count(), 1, "{random}");
+}
+
+/// Catches stored files that are not those of the second calculation, for seed 1.
+#[test]
+fn the_stored_files_are_current() {
+    for (name, bytes) in super::files(1) {
+        let current = stored(&format!("crates/vectors/{name}")) == bytes;
+        assert!(current, "{name} is not current");
+    }
+}

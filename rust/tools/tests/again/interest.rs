@@ -1,0 +1,136 @@
+//! The lines of one currency's ladder.
+
+use super::{amount, decimal, mils, sides, span};
+use books::{Book, Row};
+use second::{interest_band, interest_weight, zone_of_band, InterestLadder};
+
+/// Longs and shorts.
+type Sides = (i128, i128);
+
+/// A weighted position: thousands times basis points are tenths of the currency unit.
+fn weighted(value: i128) -> String {
+    decimal(value, 1)
+}
+
+/// The amounts of each band.
+fn amounts(rows: &[Row], group: usize) -> Vec<Sides> {
+    let own = rows.iter().filter(|row| usize::from(row.group) == group);
+    let band = |row: &Row| interest_band(row.days.into(), row.coupon.into());
+    let one = |number| sides(own.clone().filter(move |row| band(row) == number));
+    (0..15).map(one).collect()
+}
+
+/// One line of a band: zone, days of both columns, weight, amounts, weighted positions.
+fn band_line(band: usize, (long, short): Sides) -> String {
+    let weight = interest_weight(band);
+    let cells = [
+        zone_of_band(band).to_string(),
+        band.to_string(),
+        span(|days| interest_band(days, 300), band),
+        span(|days| interest_band(days, 299), band),
+        decimal(weight, 2) + "%",
+        amount(long),
+        amount(short),
+        weighted(long * weight),
+        weighted(short * weight),
+        weighted(long.min(short) * weight),
+        weighted((long - short) * weight),
+    ];
+    cells.join(" ")
+}
+
+/// What is net long and what is net short among nets.
+fn split(nets: &[i128]) -> Sides {
+    let long = nets.iter().filter(|net| **net > 0).sum();
+    let short: i128 = nets.iter().filter(|net| **net < 0).sum();
+    (long, -short)
+}
+
+/// The sides of steps 2 and 3: three zones, then 1-2, 2-3 and 1-3 of what is left
+/// (A.1, 13). The second calculation gives the matches; the sides are worked here.
+fn step_sides(bands: &[Sides], matches: &[u64]) -> Vec<Sides> {
+    let net = |band: usize| (bands[band].0 - bands[band].1) * interest_weight(band);
+    let zones = [0..4, 4..7, 7..15].map(|bands| bands.map(net).collect::<Vec<_>>());
+    let mut sides: Vec<Sides> = zones.iter().map(|nets| split(nets)).collect();
+    let mut left = zones.map(|nets| nets.iter().sum::<i128>());
+    for (pair, matched) in [[0, 1], [1, 2], [0, 2]].iter().zip(&matches[3..]) {
+        sides.push(split(&pair.map(|zone| left[zone])));
+        for zone in pair {
+            left[*zone] -= left[*zone].signum() * i128::from(*matched);
+        }
+    }
+    for ((long, short), matched) in sides.iter().zip(matches) {
+        assert_eq!(*long.min(short), i128::from(*matched));
+    }
+    sides
+}
+
+/// Document 01's table of steps: Table 2 for zones and pairs of zones (A.1, 13).
+const STEPS: [(&str, i128); 6] = [
+    ("within zone 1", 40),
+    ("within zone 2", 30),
+    ("within zone 3", 30),
+    ("zones 1 and 2", 40),
+    ("zones 2 and 3", 40),
+    ("zones 1 and 3", 100),
+];
+
+/// The lines of the steps; 10% within bands (A.1, 12), 100% of the residual (A.1, 8).
+fn step_lines(bands: &[Sides], ladder: &InterestLadder) -> Vec<String> {
+    let matches = [
+        ladder.zone_1,
+        ladder.zone_2,
+        ladder.zone_3,
+        ladder.zones_1_2,
+        ladder.zones_2_3,
+        ladder.zones_1_3,
+    ];
+    let charged = |position: u64, per_cent: i128| {
+        let position = i128::from(position);
+        let charge = mils(position * per_cent);
+        format!("{} {per_cent}% {charge}", weighted(position))
+    };
+    let mut lines = vec![
+        "step long short matched per cent disallowance".to_string(),
+        format!("within bands {}", charged(ladder.vertical, 10)),
+    ];
+    let sides = step_sides(bands, &matches);
+    for (((name, per_cent), (long, short)), matched) in STEPS.iter().zip(sides).zip(matches) {
+        let (long, short) = (weighted(long), weighted(short));
+        lines.push(format!(
+            "{name} {long} {short} {}",
+            charged(matched, *per_cent)
+        ));
+    }
+    lines.push(format!("residual {}", charged(ladder.residual, 100)));
+    lines.push(format!("charge {}", mils(ladder.charge)));
+    lines
+}
+
+/// The last line: a position is matched on both its sides, or is left.
+fn gross_line(ladder: &InterestLadder) -> String {
+    let [gross, residual] = [ladder.gross, ladder.residual].map(i128::from);
+    let matched = (gross - residual) / 2;
+    let [gross, matched, residual] = [gross, matched, residual].map(weighted);
+    format!("gross {gross} = 2 x {matched} matched + {residual} residual")
+}
+
+/// All lines of a currency.
+pub fn interest(book: &Book, group: usize) -> Vec<String> {
+    let bands = amounts(&book.classes[0], group);
+    let ladder = second::interest_ladder(&book.encode().unwrap(), group);
+    let units = "amounts in thousands, weighted positions and charges in currency units";
+    let titles = "zone band coupon 3% or more below 3% weight long short \
+                  weighted long weighted short matched net";
+    let mut lines = vec![
+        format!("currency {group}: {units}"),
+        "".into(),
+        titles.into(),
+    ];
+    let drawn = bands.iter().enumerate();
+    lines.extend(drawn.map(|(band, sides)| band_line(band, *sides)));
+    lines.push("".into());
+    lines.extend(step_lines(&bands, &ladder));
+    lines.extend(["".into(), gross_line(&ladder)]);
+    lines
+}

@@ -1,0 +1,64 @@
+//! The lines of reports and ladders calculated again, from document 01's tables and the
+//! second calculation. Nothing here is the command's own code.
+
+mod commodity;
+mod interest;
+
+use books::Row;
+
+pub use commodity::commodity;
+pub use interest::interest;
+
+/// A number of which so many digits are decimal places, with thousands separators.
+pub fn decimal(value: i128, places: usize) -> String {
+    let digits = format!("{:0width$}", value.unsigned_abs(), width = places + 1);
+    let (whole, rest) = digits.split_at(digits.len() - places);
+    let threes = whole.as_bytes().rchunks(3).rev();
+    let threes: Vec<&str> = threes.map(|d| std::str::from_utf8(d).unwrap()).collect();
+    let sign = if value < 0 { "-" } else { "" };
+    let point = if places > 0 { "." } else { "" };
+    format!("{sign}{}{point}{rest}", threes.join(","))
+}
+
+/// An amount, in thousands.
+pub fn amount(value: i128) -> String {
+    decimal(value, 0)
+}
+
+/// A charge in mils, of which 1,000 are a currency unit.
+pub fn mils(value: impl Into<i128>) -> String {
+    decimal(value.into(), 3)
+}
+
+/// The longs and the shorts of rows.
+pub fn sides<'a>(rows: impl Iterator<Item = &'a Row>) -> (i128, i128) {
+    rows.fold((0, 0), |(long, short), row| {
+        (long + i128::from(row.long), short + i128::from(row.short))
+    })
+}
+
+/// The days of a band, found day by day; a dash where no day lies in it.
+pub fn span(band_of: impl Fn(i128) -> usize, band: usize) -> String {
+    let days: Vec<i128> = (0..=36_000).filter(|day| band_of(*day) == band).collect();
+    match (days.first(), days.last()) {
+        (Some(first), Some(36_000)) => format!("over {}", amount(first - 1)),
+        (Some(first), Some(last)) => format!("{}-{}", amount(*first), amount(*last)),
+        _ => "-".into(),
+    }
+}
+
+/// The lines of a report.
+pub fn report(book: &[u8]) -> Vec<String> {
+    let report = second::charge(book);
+    let lines = [
+        ("interest specific", report.interest_specific),
+        ("interest general", report.interest_general),
+        ("equity specific", report.equity_specific),
+        ("equity general", report.equity_general),
+        ("foreign exchange", report.exchange),
+        ("commodity", report.commodity),
+        ("total", report.total),
+    ];
+    let line = |(name, value): (&str, u64)| format!("{name} {}", mils(value));
+    lines.map(line).to_vec()
+}

@@ -1,0 +1,70 @@
+//! The header's promise that a null pointer with length 0 is a file of no bytes.
+
+use market_risk as _; // links the proved library
+use std::ptr::{null, null_mut};
+
+extern "C" {
+    fn market_risk_check(book: *const u8, len: usize, out: *mut u64);
+    fn market_risk_charge(book: *const u8, len: usize, out: *mut u64);
+    fn market_risk_interest_ladder(book: *const u8, len: usize, group: usize, out: *mut u64);
+    fn market_risk_commodity_ladder(book: *const u8, len: usize, group: usize, out: *mut u64);
+    fn market_risk_join(
+        a: *const u8,
+        a_len: usize,
+        b: *const u8,
+        b_len: usize,
+        out: *mut u8,
+        out_len: usize,
+        result: *mut u64,
+    );
+}
+
+/// A result in which every entry is marked, with room for the longest.
+const MARKED: [u64; 13] = [u64::MAX; 13];
+
+/// A book without rows.
+const EMPTY: [u8; 8] = [0; 8];
+
+/// Catches a call that reads through the pointer, or takes null for something other than
+/// the file of no bytes, which is refused with 1.
+#[test]
+fn null_with_length_0_is_a_file_of_no_bytes() {
+    let calls: [(usize, &dyn Fn(*mut u64)); 4] = [
+        // SAFETY, here and below: the header allows null with length 0, and every result
+        // has room for its entries.
+        (3, &|out| unsafe { market_risk_check(null(), 0, out) }),
+        (10, &|out| unsafe { market_risk_charge(null(), 0, out) }),
+        (13, &|out| unsafe {
+            market_risk_interest_ladder(null(), 0, 7, out)
+        }),
+        (7, &|out| unsafe {
+            market_risk_commodity_ladder(null(), 0, 7, out)
+        }),
+    ];
+    for (entries, call) in calls {
+        let mut out = MARKED;
+        call(out.as_mut_ptr());
+        assert_eq!(out[0], 1, "{entries} entries");
+        assert!(out[1..entries].iter().all(|entry| *entry == 0));
+        assert_eq!(out[entries..], MARKED[entries..]);
+    }
+}
+
+/// Runs a join with null in the place of whichever book is absent, and of the output.
+fn join(a: Option<&[u8]>, b: Option<&[u8]>) -> [u64; 4] {
+    let of = |book: Option<&[u8]>| book.map_or((null(), 0), |book| (book.as_ptr(), book.len()));
+    let ((a, a_len), (b, b_len)) = (of(a), of(b));
+    let mut result = [u64::MAX; 4];
+    unsafe { market_risk_join(a, a_len, b, b_len, null_mut(), 0, result.as_mut_ptr()) };
+    result
+}
+
+/// Catches a join that reads a null book or writes to a null output: refused with 1, the
+/// second book's fault as 1 of book 1, and an output without room with 12.
+#[test]
+fn null_books_and_a_null_output_are_joined() {
+    assert_eq!(join(None, None), [1, 0, 0, 0]);
+    assert_eq!(join(None, Some(&EMPTY)), [1, 0, 0, 0]);
+    assert_eq!(join(Some(&EMPTY), None), [1, 0, 1, 0]);
+    assert_eq!(join(Some(&EMPTY), Some(&EMPTY)), [12, 0, 0, 0]);
+}

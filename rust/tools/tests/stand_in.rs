@@ -1,0 +1,122 @@
+//! The command over a library that has calls taken out, which it must notice. It is built
+//! a second time, over the proved archive with tests/stand_in/stand_in.c before its calls.
+
+mod common;
+
+use common::{packed, temporary};
+use std::path::Path;
+use std::process::{Command, Output};
+use std::sync::OnceLock;
+use std::{env, fs};
+
+/// The five calls, as the C interface names them.
+const CALLS: [&str; 5] = [
+    "check",
+    "charge",
+    "interest_ladder",
+    "commodity_ladder",
+    "join",
+];
+
+/// Where this crate lies.
+const HERE: &str = env!("CARGO_MANIFEST_DIR");
+
+/// Runs a program of the build, which must succeed.
+fn build(command: &mut Command) {
+    let output = command.output().unwrap();
+    let errors = String::from_utf8_lossy(&output.stderr);
+    assert!(output.status.success(), "{command:?}: {errors}");
+}
+
+/// The archive with the stand-in before its calls. Its folder is given.
+fn archive() -> String {
+    let proved = match env::var("MARKET_RISK_LIB_DIR") {
+        Ok(folder) => folder,
+        Err(_) => format!("{HERE}/../../target/staticlib"),
+    };
+    let folder = temporary("stand-in-library");
+    fs::create_dir_all(&folder).unwrap();
+    let (object, fresh) = (format!("{folder}/stand_in.o"), format!("{folder}/fresh.a"));
+    let mut rename = Command::new("objcopy");
+    for call in CALLS {
+        rename.args([
+            "--redefine-sym",
+            &format!("market_risk_{call}=proved_{call}"),
+        ]);
+    }
+    build(rename.args([&format!("{proved}/libmarket_risk.a"), &fresh]));
+    let source = format!("{HERE}/tests/stand_in/stand_in.c");
+    let include = format!("-I{HERE}/../../include");
+    build(Command::new("cc").args(["-c", "-O1", &include, "-o", &object, &source]));
+    build(Command::new("ar").args(["rD", &fresh, &object]));
+    let archive = format!("{folder}/libmarket_risk.a");
+    // An archive that is as it was keeps its date, and nothing is built again.
+    if fs::read(&archive).ok() != fs::read(&fresh).ok() {
+        fs::rename(&fresh, &archive).unwrap();
+    }
+    folder
+}
+
+/// The command over that archive, built once.
+fn tool() -> &'static str {
+    static TOOL: OnceLock<String> = OnceLock::new();
+    TOOL.get_or_init(|| {
+        let target = temporary("stand-in-target");
+        build(
+            Command::new(env!("CARGO"))
+                .current_dir(Path::new(HERE).join(".."))
+                .env("MARKET_RISK_LIB_DIR", archive())
+                .args(["build", "--offline", "--quiet", "--package", "tools"])
+                .args(["--target-dir", &target]),
+        );
+        format!("{target}/debug/market-risk")
+    })
+}
+
+/// Runs the command with a call taken out, or "none".
+fn run(without: &str, words: &[&str]) -> Output {
+    let mut command = Command::new(tool());
+    command.env("STAND_IN", without).args(words);
+    command.output().unwrap()
+}
+
+/// How the command fails with a call taken out, which it must, with exit status 1.
+fn fails(without: &str, words: &[&str]) -> String {
+    let output = run(without, words);
+    assert_eq!(output.status.code(), Some(1), "without {without}");
+    String::from_utf8(output.stderr).unwrap()
+}
+
+/// Catches a comparison that does not reach the linked library: of the second calculation
+/// with itself, or by a `Proved` that is answered from elsewhere, in any of the calls.
+#[test]
+fn compare_fails_without_each_call() {
+    let words = ["compare", "--seed", "1", "--count", "300"];
+    let whole = run("none", &words);
+    assert!(whole.status.success());
+    assert!(String::from_utf8_lossy(&whole.stdout).contains(" 300 pairs equal "));
+    for call in CALLS {
+        let error = fails(call, &words);
+        let told = format!(
+            "\n{}: the proved library gives [0, 0, 0",
+            call.replace('_', " ")
+        );
+        assert!(error.contains(&told), "without {call}: {error}");
+    }
+    assert!(fails("all", &words).contains(": the proved library gives [0, 0, 0"));
+}
+
+/// Catches a ladder that is drawn without a look at the library's figures.
+#[test]
+fn ladder_fails_without_its_call() {
+    let keyed = packed("keyed", "stand-in");
+    let words = ["ladder", &keyed, "--currency", "7"];
+    assert!(run("none", &words).status.success());
+    let error = fails("interest_ladder", &words);
+    assert!(error.contains("gross: the bands give 15750, the library 0"));
+    let stock = packed("commodity", "stand-in");
+    let words = ["ladder", &stock, "--commodity", "5"];
+    assert!(run("none", &words).status.success());
+    let error = fails("commodity_ladder", &words);
+    assert!(error.contains("matches: the bands give 1400, the library 0"));
+}
