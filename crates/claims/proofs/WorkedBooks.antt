@@ -43,13 +43,21 @@ unfoldable writing : List Worked → List Worked
 unfolding written twoBytes fourBytes rowBytes contentsBytes fileOf legCounts bookOf addedCounts joinedCounts joinedBody joined inBook settled joinRefusal joinedOf joinOutput joinedBook
 writing facts = facts
 
+unfoldable weights : List Worked → List Worked
+unfolding firstBand interestBand commodityBand bandIn qualifyingWeight interestWeight equityWeight specificWeight
+weights facts = facts
+
 unfoldable charges : List Worked → List Worked
-unfolding firstBand interestBand commodityBand bandIn qualifyingWeight interestWeight equityWeight specificWeight specificOf specificCharge interestFiguresOf commodityFiguresOf interestGeneral equityGeneral exchangeGeneral commodityGeneral interestRisk equityRisk
+unfolding specificOf specificCharge interestFiguresOf commodityFiguresOf interestGeneral equityGeneral exchangeGeneral commodityGeneral interestRisk equityRisk
 charges facts = facts
 
+unfoldable answers : List Worked → List Worked
+unfolding refusalEntries reportFigures reportEntries interestEntries commodityEntries joinedEntries
+answers facts = facts
+
 unfoldable pub given : List Worked → List (List ℕ)
-unfolding file refusals ladders writing charges reportWith refusedReport reportOf ladderRefusal interestLadderOf commodityLadderOf refusalEntries reportFigures reportEntries interestEntries commodityEntries joinedEntries
-given facts = map (λ w. w .given) (file (refusals (ladders (writing (charges facts)))))
+unfolding file refusals ladders writing weights charges answers reportWith refusedReport reportOf ladderRefusal interestLadderOf commodityLadderOf
+given facts = map (λ w. w .given) (file (refusals (ladders (writing (weights (charges (answers facts)))))))
 
 pub expected : List Worked → List (List ℕ)
 unfolding span
