@@ -1,12 +1,12 @@
 -- `charges::charged_report` meets its contract: the total is the sum of the six.
-use Rattle.charges.specs.Report.{reportWith}
 use borrow.Author.Needs.{needs}
+use Rattle.charges.specs.Report.{reportWith}
 use Rattle.charges.proofs.charged_report.Statement.{statement}
 use Rattle.charges.proofs.charged_report.Tie as tie
 
 returns : tie.Need-returns
 unfolding reportWith
-returns c = cc
+returns c = simp (c .refused .ensures)
 
 pub charged-report-spec : {M : Type 1} → statement M
 charged-report-spec =
