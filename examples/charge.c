@@ -6,6 +6,7 @@
 
 #include <inttypes.h>
 #include <stdio.h>
+#include <string.h>
 
 /* Document 01's equity book: market 3, ordinary long 100, index short 40. */
 static const uint8_t equity[8 + 2 * 16] = {
@@ -23,7 +24,7 @@ static const uint8_t zones[8 + 3 * 16] = {
     7, 1, 0x70, 0x17, 0x20, 0x03, 0, 0, 10, 0, 0, 0, 0,  0, 0, 0,
 };
 
-/* One row of each class, so that no two of the seven figures are equal: other paper, long 1 at 270 days, coupon 300 (0x012c);
+/* One row of each class, so that no two of the eight figures are equal: other paper, long 1 at 270 days, coupon 300 (0x012c);
  * diversified shares, long 3; gold, short 2; a commodity, long 1 at 36,000 days (0x8ca0). */
 static const uint8_t classes[8 + 4 * 16] = {
     1, 0, 1, 0, 1, 0, 1, 0,
@@ -39,23 +40,29 @@ static void print_report(const char *name, const uint8_t *book, size_t len)
         "interest-specific", "interest-general", "equity-specific", "equity-general",
         "fx", "commodity", "total",
     };
-    uint64_t out[10];
+    uint64_t out[11];
 
     market_risk_charge(book, len, out);
     printf("%s\n", name);
     if (out[0] != 0) {
         printf("refused %" PRIu64 " row %" PRIu64 "\n", out[0], out[1]);
-        return;
+    } else {
+        for (int i = 0; i < 7; i++)
+            printf("%s %" PRIu64 "\n", figures[i], out[3 + i]);
     }
-    for (int i = 0; i < 7; i++)
-        printf("%s %" PRIu64 "\n", figures[i], out[3 + i]);
+    printf("taken %" PRIu64 "\n", out[10]);
 }
 
 int main(void)
 {
+    uint8_t spoiled[sizeof classes];
+
+    memcpy(spoiled, classes, sizeof classes);
+    spoiled[8 + 3 * 16 + 8] = 0; /* the last row: both amounts are 0 */
     print_report("equity book", equity, sizeof equity);
     print_report("zones book", zones, sizeof zones);
     print_report("book of four classes", classes, sizeof classes);
     print_report("equity book without its last byte", equity, sizeof equity - 1);
+    print_report("book of four classes, its last row bad", spoiled, sizeof spoiled);
     return 0;
 }

@@ -19,9 +19,9 @@
  * recurses, so no book makes it more.
  *
  *     market_risk_check              200
- *     market_risk_charge            9000
- *     market_risk_interest_ladder   8500
- *     market_risk_commodity_ladder  8000
+ *     market_risk_charge           15000
+ *     market_risk_interest_ladder    800
+ *     market_risk_commodity_ladder   600
  *     market_risk_join               500
  *
  * All but check and join call memset. Where the loader binds it at its first call, that
@@ -43,8 +43,9 @@ void market_risk_check(const uint8_t *book, size_t len, uint64_t out[3]);
 
 /* The report of a book.
  * out: number, row, book; interest specific, interest general, equity specific,
- * equity general, foreign exchange, commodity; total. */
-void market_risk_charge(const uint8_t *book, size_t len, uint64_t out[10]);
+ * equity general, foreign exchange, commodity; total; taken. Taken is how many rows were
+ * taken from the file: of an accepted book its number of rows, of a refused one 0. */
+void market_risk_charge(const uint8_t *book, size_t len, uint64_t out[11]);
 
 /* The interest ladder of one currency, group 0 to 31; a greater group is refused with 10.
  * out: number, row, book; gross; the match sums: vertical, zones 1, 2, 3, 1-2, 2-3, 1-3;

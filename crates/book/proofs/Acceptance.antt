@@ -95,12 +95,16 @@ class-clean s a = pick (every-flat (λ class. map (legOf class) (rowsOf s class)
     pick : Every (λ class. Every CleanLeg (map (legOf class) (rowsOf s class))) classes → (class : ℕ) → 1 ≤ class → class ≤ 4 → CleanRows s class
     pick (also one (also two (also three (also four none)))) = of-four (CleanRows s) (own 1 one) (own 2 two) (own 3 three) (own 4 four)
 
-pub clean-legs : (s : List ℕ) → ((class : ℕ) → 1 ≤ class → class ≤ 4 → Every (λ bytes. Clean class (decode bytes)) (rowsOf s class)) → Every CleanLeg (legsOf s)
+-- what holds of the rows of each class holds of all legs
+pub legs-every : {P : Leg → Type 0} (s : List ℕ) → ((class : ℕ) → 1 ≤ class → class ≤ 4 → Every (λ bytes. P (legOf class bytes)) (rowsOf s class)) → Every P (legsOf s)
 unfolding legsOf
-clean-legs s clean =
+legs-every {P} s each =
     flat-every (λ class. map (legOf class) (rowsOf s class))
     (also (own 1 (omega arith) (omega arith))
     (also (own 2 (omega arith) (omega arith)) (also (own 3 (omega arith) (omega arith)) (also (own 4 (omega arith) (omega arith)) none))))
   where
-    own : (class : ℕ) → 1 ≤ class → class ≤ 4 → Every CleanLeg (map (legOf class) (rowsOf s class))
-    own class low high = mapped-every (legOf class) (λ bytes clean. clean) (clean class low high)
+    own : (class : ℕ) → 1 ≤ class → class ≤ 4 → Every P (map (legOf class) (rowsOf s class))
+    own class low high = mapped-every (legOf class) (λ bytes holds. holds) (each class low high)
+
+pub clean-legs : (s : List ℕ) → ((class : ℕ) → 1 ≤ class → class ≤ 4 → Every (λ bytes. Clean class (decode bytes)) (rowsOf s class)) → Every CleanLeg (legsOf s)
+clean-legs s clean = legs-every s clean

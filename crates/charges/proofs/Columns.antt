@@ -1,77 +1,86 @@
--- In a column that ascends, the first band whose last day is not below the days is the number of last days below them.
+-- Columns of last days: where the first band stands by the entries that are below the days, and that filling up a column changes no band.
 -- Assumes nothing.
-use mathlib.Core.Path.{_≡_, refl, sym, ap, _∙_}
-use mathlib.Core.Bool.{Bool, true, false, cond, _&&_, false≢true}
+use mathlib.Core.Path.{_≡_, refl, ap}
+use mathlib.Core.Bool.{Bool, true, false, cond}
 use mathlib.Core.List.{List, [], _∷_, _++_}
-use Prim.Native.Nat.{ℕ, suc, _+_, _≤_, _<_}
-use native.Mathlib.Nat.{add-zero}
+use Prim.Native.Nat.{ℕ, zero, suc, _+_, _*_, _≤_, _<_}
 use native.Mathlib.Omega.{arith}
-use native.Mathlib.Numerals.{add-one}
-use lib.ListN.{length, take, getD}
-use lib.Seq.{take-suc}
+use mir.Val.{boolByte}
+use lib.ListN.{length, getD, replicate}
 use lib.Dec.{ltb, leb}
-use borrow.Author.Tests.{ltb-false, lt-ltb, le-ltb, leb-true}
-use Rattle.charges.specs.Inner.Tables.{ascending}
+use borrow.Author.Tests.{ltb-true, lt-ltb, le-ltb, leb-true}
+use Rattle.sums.proofs.Cases.{both}
 use Rattle.charges.specs.Bands.{firstBand}
+use Rattle.charges.specs.Inner.Columns.{ascending, largest}
 
--- how many entries are below the days
-unfoldable pub below : ℕ → List ℕ → ℕ
-below days [] = 0
-below days (last ∷ column) = cond (ltb last days) (suc (below days column)) (below days column)
-
-below-append : (days : ℕ) (l m : List ℕ) → below days (l ++ m) ≡ below days l + below days m
-unfolding below
-below-append days [] m = omega arith
-below-append days (last ∷ l) m = go (ltb last days) (below-append days l m)
+-- ---- one entry
+-- past all entries it is the band after them
+pub first-within : (days : ℕ) (column : List ℕ) → firstBand days column ≤ length column
+unfolding firstBand
+first-within days [] = omega arith
+first-within days (last ∷ column) = go (ltb last days) (first-within days column)
   where
-    go : (test : Bool) → below days (l ++ m) ≡ below days l + below days m
-        → cond test (suc (below days (l ++ m))) (below days (l ++ m)) ≡ cond test (suc (below days l)) (below days l) + below days m
+    go : (test : Bool) → firstBand days column ≤ length column → cond test (suc (firstBand days column)) 0 ≤ suc (length column)
     go true later = omega arith
-    go false later = later
+    go false later = omega arith
 
--- one entry more, which is below the days or is not
-module _ (days : ℕ) (column : List ℕ) (i : ℕ) (within : i < length column) where
-  below-last : below days (take (i + 1) column) ≡ below days (take i column) + below days (getD column i 0 ∷ [])
-  below-last = rw (add-one i, take-suc column i 0 within) (below-append days (take i column) _)
-
-  pub below-more : getD column i 0 < days → below days (take (i + 1) column) ≡ below days (take i column) + 1
-  unfolding below
-  below-more h = below-last ∙ rw (lt-ltb _ _ h)
-
-  pub below-same : days ≤ getD column i 0 → below days (take (i + 1) column) ≡ below days (take i column)
-  unfolding below
-  below-same h = below-last ∙ rw (le-ltb _ _ h, add-zero)
-
--- ---- tests
--- a choice of two numbers that are within a bound
-pub either : {bound : ℕ} (test : Bool) (a b : ℕ) → a ≤ bound → b ≤ bound → cond test a b ≤ bound
-either true a b h k = h
-either false a b h k = k
-
-pub both : (a b : Bool) → (a && b) ≡ true → (a ≡ true) × (b ≡ true)
-both true b e = (refl, e)
-both false b e = absurd (false≢true e)
-
-none-below : (days last : ℕ) (column : List ℕ) → ascending (last ∷ column) ≡ true → days ≤ last → below days column ≡ 0
-unfolding below ascending
-none-below days last [] up h = refl
-none-below days last (next ∷ column) up h =
-    let parts = both (leb last next) _ up in
-    let later : days ≤ next = omega (arith, leb-true last next (parts .0)) in
-    simp (le-ltb next days later) (none-below days next column (parts .1) later)
-
-rest-ascends : (last : ℕ) (column : List ℕ) → ascending (last ∷ column) ≡ true → ascending column ≡ true
-unfolding ascending
-rest-ascends last [] up = refl
-rest-ascends last (next ∷ column) up = both (leb last next) _ up .1
-
-pub first-is-below : (days : ℕ) (column : List ℕ) → ascending column ≡ true → firstBand days column ≡ below days column
-unfolding firstBand below
-first-is-below days [] up = refl
-first-is-below days (last ∷ column) up =
-    go (ltb last days) (λ t. none-below days last column up (ltb-false last days t)) (first-is-below days column (rest-ascends last column up))
+-- an entry that is not below the days
+pub first-by : (days : ℕ) (column : List ℕ) (i : ℕ) → days ≤ getD column i 0 → firstBand days column ≤ i
+unfolding firstBand
+first-by days [] i h = omega arith
+first-by days (last ∷ column) zero h = rw (le-ltb last days h) (omega arith)
+first-by days (last ∷ column) (suc i) h = go (ltb last days) (first-by days column i h)
   where
-    go : (test : Bool) → (test ≡ false → below days column ≡ 0) → firstBand days column ≡ below days column
-        → cond test (suc (firstBand days column)) 0 ≡ cond test (suc (below days column)) (below days column)
-    go true none later = ap suc later
-    go false none later = sym (none refl)
+    go : (test : Bool) → firstBand days column ≤ i → cond test (suc (firstBand days column)) 0 ≤ suc i
+    go true later = omega arith
+    go false later = omega arith
+
+-- an entry of an ascending column that is below the days: so are all before it
+pub first-past : (days : ℕ) (column : List ℕ) → ascending column ≡ true → (i : ℕ) → i < length column → getD column i 0 < days → i < firstBand days column
+unfolding firstBand ascending
+first-past days [] up i within h = let never : ⊥ = omega arith in absurd never
+first-past days (last ∷ column) up zero within h = rw (lt-ltb last days h) (omega arith)
+first-past days (last ∷ []) up (suc i) within h = let never : ⊥ = omega arith in absurd never
+first-past days (last ∷ (next ∷ column)) up (suc i) within h =
+    let parts = both (leb last next) _ up in
+    let later = first-past days (next ∷ column) (parts .1) i (omega arith) h in
+    let low : last < days = omega (arith, leb-true last next (parts .0), passed next days _ later) in
+    rw (lt-ltb last days low) (omega (arith, later))
+  where
+    passed : {i : ℕ} (a b rest : ℕ) → i < cond (ltb a b) (suc rest) 0 → a < b
+    passed a b rest h = go (ltb a b) (ltb-true a b) h
+      where
+        go : {i : ℕ} (test : Bool) → (test ≡ true → a < b) → i < cond test (suc rest) 0 → a < b
+        go true holds h = holds refl
+        go false holds h = let never : ⊥ = omega arith in absurd never
+
+-- ---- three entries, equally far apart
+-- a test counts once at most
+pub counts-once : (test : Bool) → boolByte test ≤ 1
+counts-once true = omega arith
+counts-once false = omega arith
+
+-- what a test at a place tells of the first band
+pub record Told (band place : ℕ) (test : Bool) : Type 0 where
+  pub past : test ≡ true → place < band
+  pub by : test ≡ false → band ≤ place
+
+-- the tests that hold say between which two of the places the band is
+pub three-told : (apart place band : ℕ) (a b c : Bool) → place < band + apart → band ≤ place + 3 * apart
+    → Told band place a → Told band (place + apart) b → Told band (place + 2 * apart) c
+    → (place + apart * (boolByte a + boolByte b + boolByte c) < band + apart) × (band ≤ place + apart * (boolByte a + boolByte b + boolByte c))
+three-told apart place band true true true low high p q r = omega (arith, r .past refl)
+three-told apart place band true true false low high p q r = omega (arith, q .past refl, r .by refl)
+three-told apart place band true false true low high p q r = omega (arith, q .by refl, r .past refl)
+three-told apart place band true false false low high p q r = omega (arith, p .past refl, q .by refl)
+three-told apart place band false true true low high p q r = omega (arith, p .by refl, q .past refl)
+three-told apart place band false true false low high p q r = omega (arith, p .by refl, q .past refl)
+three-told apart place band false false true low high p q r = omega (arith, p .by refl, r .past refl)
+three-told apart place band false false false low high p q r = omega (arith, p .by refl)
+
+-- ---- filled up with the largest number of two bytes
+pub first-filled : (days : ℕ) → days ≤ largest → (column : List ℕ) (more : ℕ) → firstBand days (column ++ replicate more largest) ≡ firstBand days column
+unfolding firstBand
+first-filled days h [] zero = refl
+first-filled days h [] (suc more) = rw (le-ltb largest days h)
+first-filled days h (last ∷ column) more = ap (λ (band : ℕ). cond (ltb last days) (suc band) 0) (first-filled days h column more)

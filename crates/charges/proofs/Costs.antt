@@ -1,110 +1,167 @@
--- What the tables of a class's clean rows cost is what the rows cost, and no sum of it is too large.
+-- What the tables of an accepted book cost is what its rows cost, and no sum of it is too large.
 -- Assumes nothing.
-use mathlib.Core.Path.{_≡_, sym, ap, _∙_}
+use mathlib.Core.Path.{_≡_, refl, sym, ap, _∙_, fun-ext}
 use mathlib.Core.List.{List}
-use Prim.Native.Nat.{ℕ, _*_, _≤_, _<_}
+use Prim.Native.Nat.{ℕ, _+_, _*_, _≤_, _<_}
 use native.Mathlib.Omega.{arith}
-use lib.ListN.{length}
-use Rattle.sums.specs.Sums.{sumOf, span}
+use lib.ListN.{length, getD, replicate, length-map, length-replicate}
+use Rattle.sums.specs.Sums.{sumOf, sumAt, span}
 use Rattle.sums.specs.Every.{Every}
-use Rattle.sums.proofs.Spans.{sum-same}
+use Rattle.sums.proofs.Every.{every-implied, mapped-every}
+use Rattle.sums.proofs.Spans.{sum-same, slots-all}
+use Rattle.sums.proofs.Tables.{length-tally}
 use Rattle.book.specs.declared.Row.{Row}
-use Rattle.book.specs.Refusals.{mostRows}
-use Rattle.book.specs.Accepted.{Clean}
-use Rattle.ladder.specs.declared.positions.Position.{Position}
+use Rattle.book.specs.Counts.{countsOf, countIn}
+use Rattle.book.specs.Rows.{rowsOf, decode}
+use Rattle.book.specs.Legs.{legsOf}
+use Rattle.book.specs.Accepted.{Clean, Accepted}
+use Rattle.book.proofs.Acceptance.{class-clean, legs-every}
+use Rattle.book.proofs.Bodies.{class-count}
+use Rattle.book.proofs.Placing.{before-within}
+use Rattle.book.proofs.Walking.{class-rows}
 use Rattle.ladder.specs.Position.{Bands, gross, total}
-use Rattle.ladder.specs.Table.{Table, weightIn, AcceptedTable}
-use Rattle.ladder.specs.Interest.{zones, matches, interestFigures}
+use Rattle.ladder.specs.Table.{Table}
+use Rattle.ladder.specs.Interest.{interestFigures}
 use Rattle.ladder.specs.Commodity.{commodityBandCount, commodityFigures}
 use Rattle.ladder.specs.Nets.{absoluteNets, shorthand}
-use Rattle.ladder.specs.Rows.{weighing, ladderOf, groupsOf}
+use Rattle.ladder.specs.Rows.{inGroup, ladderOf, groupsOf}
 use Rattle.ladder.specs.Inner.Steps.{bandCount}
-use Rattle.ladder.proofs.Totals.{fewer-within}
-use Rattle.ladder.proofs.AddsUp.{charge-within}
-use Rattle.ladder.proofs.Carrying.{commodity-within}
-use Rattle.ladder.proofs.Agreeing.{Agree, gross-agree, interest-agree, commodity-agree, absolutes-agree, shorthand-agree}
-use Rattle.ladder.proofs.Books.{ladderOf-weighted}
-use Rattle.ladder.proofs.Bounds.{ladder-within, ladders-within, weighted-gross}
+use Rattle.ladder.proofs.Matching.{same-position}
+use Rattle.ladder.proofs.Agreeing.{Agree, gross-agree, absolutes-agree, shorthand-agree}
+use Rattle.ladder.proofs.Bounds.{positionsBy-within, ladders-within}
 use Rattle.charges.specs.Bands.{bandIn}
-use Rattle.charges.specs.Charges.{groups, currencies, reading, interestFiguresOf, commodityFiguresOf, interestGeneral, commodityGeneral}
-use Rattle.charges.specs.Inner.Tables.{SumsOf, groupCount, mostGross, tableBands, tableGross, weightedBands, tableGroups}
-use Rattle.charges.proofs.Legs.{amounts, amounts-within}
-use Rattle.charges.proofs.Slots.{bands-agree, groups-agree}
+use Rattle.charges.specs.Charges.{eightPerCent, groups, currencies, reading, specificOf, specificCharge}
+use Rattle.charges.specs.Charges.{interestGeneral, equityGeneral, exchangeGeneral, commodityGeneral}
+use Rattle.charges.specs.Report.{classRows}
+use Rattle.charges.specs.Inner.Slots.{groupCount, equityFirst, exchangeFirst, slotCount, bandsIn, slotAt, legSlot, legLong, legShort, legCounted, LegSums}
+use Rattle.charges.specs.Inner.Tables.{mostGross, bandsFrom, grossFrom, weightedFrom, currencyAt, commodityAt}
+use Rattle.charges.proofs.Legs.{amounts, amounts-within, specific-within}
 use Rattle.charges.proofs.Rates.{groups-rate}
+use Rattle.charges.proofs.Places.{Placed}
+use Rattle.charges.proofs.Figures.{interest-from, commodity-from}
+use Rattle.charges.proofs.Sorting.{Holds, holds, none-counted}
 
--- ---- any tables of sums: a ladder costs at most its rate times what its bands come to
-pub interest-cost : (table : Table) → AcceptedTable table → (longs shorts : List ℕ) (g : ℕ)
-    → interestFigures (table .percents) (weightedBands table longs shorts g) .charge ≤ 200000 * tableGross longs shorts g
-unfolding matches span
-interest-cost table ok longs shorts g =
-    omega (
-      arith,
-      charge-within (table .percents) (ok .percents) zones (weightedBands table longs shorts g),
-      weighted-gross table ok (tableBands longs shorts g) (span 0 bandCount),
-    )
+-- ---- the rows of a class of an accepted book
+module _ (s : List ℕ) (ok : Accepted s) where
+  legs-placed : Every Placed (legsOf s)
+  legs-placed = legs-every s (λ class low high. every-implied (λ bytes clean. record { low = low; high = high; group = clean .group }) (class-clean s ok class low high))
 
-pub commodity-cost : (longs shorts : List ℕ) (g : ℕ) → commodityFigures (tableBands longs shorts g) .charge ≤ 186000 * tableGross longs shorts g
-commodity-cost longs shorts g =
-    omega (arith, commodity-within (tableBands longs shorts g), fewer-within (tableBands longs shorts g) 0 commodityBandCount bandCount (omega arith))
+  module _ (class : ℕ) (low : 1 ≤ class) (high : class ≤ 4) where
+    pub rows-clean : Every (Clean class) (classRows s class)
+    rows-clean = rw (class-rows s class low high) (mapped-every decode (λ bytes clean. clean) (class-clean s ok class low high))
 
--- ---- tables of clean rows, at most 4,000: no group, and no sum of the groups, comes to too much
-amounts-most : (class : ℕ) {rows : List Row} → Every (Clean class) rows → length rows ≤ mostRows → amounts rows ≤ mostGross
-amounts-most class clean few = omega (arith, amounts-within class clean)
+    pub rows-many : length (classRows s class) ≡ countIn (countsOf s) class
+    rows-many = rw (class-rows s class low high) (length-map (rowsOf s class) decode ∙ class-count s (ok .sized) class)
 
-module _ (class : ℕ) (rows : List Row) (longs shorts : List ℕ) (specific : ℕ) (of : SumsOf class rows longs shorts specific)
-    (clean : Every (Clean class) rows) (few : length rows ≤ mostRows) where
-  pub fits : (g : ℕ) → g < groupCount → tableGross longs shorts g ≤ mostGross
+    amounts-most : amounts (classRows s class) ≤ mostGross
+    amounts-most = omega (arith, amounts-within class rows-clean, rows-many, before-within (countsOf s) class, ok .few)
+
+    -- the specific charges of the groups are that of the rows
+    specific-groups : sumOf (λ g. sumAt (λ row. row .group) (specificOf class) g (classRows s class)) groups ≡ specificCharge class (classRows s class)
+    unfolding specificCharge
+    specific-groups = slots-all (λ row. row .group) (specificOf class) groupCount (every-implied (λ row clean. omega (arith, clean .group)) rows-clean)
+
+    specific-most : specificCharge class (classRows s class) ≤ eightPerCent * mostGross
+    unfolding specificCharge
+    specific-most = omega (arith, specific-within class (classRows s class), amounts-most)
+
+-- ---- tables that agree with the ladders of a class
+module _ (class n : ℕ) (rows : List Row) (table : ℕ → Bands) (agree : (g : ℕ) → g < groupCount → Agree n (table g) (ladderOf (reading class) g rows)) where
+  ladders-fit : sumOf (λ g. gross (total (table g) (span 0 n))) groups ≤ amounts rows
   unfolding amounts
-  fits g h = omega (arith, gross-agree (bands-agree class rows longs shorts specific of g h), ladder-within (reading class) bandCount rows g, amounts-most class clean few)
+  ladders-fit =
+      omega (arith, sum-same (λ g. gross (total (table g) (span 0 n))) _ groupCount (λ g h. gross-agree (agree g h)), ladders-within (reading class) n rows groupCount)
 
-  pub all-fit : sumOf (tableGross longs shorts) groups ≤ mostGross
-  unfolding amounts
-  all-fit =
+  -- a group without rows has no amounts
+  unused-none : (g : ℕ) → g < groupCount → ((amount : Row → ℕ) → sumAt (λ row. row .group) amount g rows ≡ 0) → gross (total (table g) (span 0 n)) ≡ 0
+  unused-none g h none =
       omega (
         arith,
-        sum-same (tableGross longs shorts) _ groupCount (λ g h. gross-agree (bands-agree class rows longs shorts specific of g h)),
-        ladders-within (reading class) bandCount rows groupCount,
-        amounts-most class clean few,
+        gross-agree (agree g h),
+        positionsBy-within (bandIn class) (inGroup (reading class) g (λ row. row .long)) (inGroup (reading class) g (λ row. row .short)) n rows,
+        none (λ row. row .long),
+        none (λ row. row .short),
       )
 
--- ---- interest
-module _ (table : Table) (rows : List Row) (longs shorts : List ℕ) (specific : ℕ) (of : SumsOf 1 rows longs shorts specific) where
-  weighted-agree : (g : ℕ) → g < groupCount → Agree bandCount (weightedBands table longs shorts g) (ladderOf (weighing table (reading 1)) g rows)
-  weighted-agree g h =
+-- ---- without bands a group's ladder is its sums
+flat-sum : (class : ℕ) → ((row : Row) → bandIn class row ≡ 0) → (amount : Row → ℕ) (g : ℕ) (rows : List Row)
+    → sumAt (bandIn class) (inGroup (reading class) g amount) 0 rows ≡ sumAt (λ row. row .group) amount g rows
+flat-sum class flat amount g rows = ap (λ (f : Row → ℕ). sumOf f rows) (fun-ext (λ row. simp (flat row)))
+
+pub record Costs (table : Table) (s longs shorts specifics rows : List ℕ) : Type 0 where
+  pub longs-sized : length longs ≡ slotCount
+  pub shorts-sized : length shorts ≡ slotCount
+  pub interest-fits : sumOf (λ g. grossFrom bandCount longs shorts (currencyAt g)) groups ≤ mostGross
+  pub currency-unused : (g : ℕ) → g < groupCount → getD rows (0 + g) 0 ≡ 0 → grossFrom bandCount longs shorts (currencyAt g) ≡ 0
+  pub commodity-fits : sumOf (λ g. grossFrom commodityBandCount longs shorts (commodityAt g)) groups ≤ mostGross
+  pub commodity-unused : (g : ℕ) → g < groupCount → getD rows (96 + g) 0 ≡ 0 → grossFrom commodityBandCount longs shorts (commodityAt g) ≡ 0
+  pub equity-fits : grossFrom groupCount longs shorts equityFirst ≤ mostGross
+  pub exchange-fits : grossFrom groupCount longs shorts exchangeFirst ≤ mostGross
+  pub interest-specific-fits : sumOf (λ g. getD specifics (0 + g) 0) groups ≤ eightPerCent * mostGross
+  pub equity-specific-fits : sumOf (λ g. getD specifics (32 + g) 0) groups ≤ eightPerCent * mostGross
+  pub interest-is : sumOf (λ g. interestFigures (table .percents) (weightedFrom table longs shorts (currencyAt g)) .charge) groups ≡ interestGeneral table (classRows s 1)
+  pub commodity-is : sumOf (λ g. commodityFigures (bandsFrom longs shorts (commodityAt g)) .charge) groups ≡ commodityGeneral (classRows s 4)
+  pub equity-is : eightPerCent * absoluteNets groups (bandsFrom longs shorts equityFirst) ≡ equityGeneral (classRows s 2)
+  pub exchange-is : eightPerCent * shorthand currencies (bandsFrom longs shorts exchangeFirst) ≡ exchangeGeneral (classRows s 3)
+  pub interest-specific-is : sumOf (λ g. getD specifics (0 + g) 0) groups ≡ specificCharge 1 (classRows s 1)
+  pub equity-specific-is : sumOf (λ g. getD specifics (32 + g) 0) groups ≡ specificCharge 2 (classRows s 2)
+
+module _ (table : Table) (s longs shorts specifics rows : List ℕ) (ok : Accepted s) (sums : LegSums (legsOf s) longs shorts specifics rows) where
+  at : (class g : ℕ) → 1 ≤ class → class ≤ 4 → g < groupCount → Holds (legsOf s) class g longs shorts specifics rows
+  at class g low high h = holds (legsOf s) (legs-placed s ok) class g low high (omega arith) longs shorts specifics rows sums
+
+  currency-agree : (g : ℕ) → g < groupCount → Agree bandCount (bandsFrom longs shorts (currencyAt g)) (ladderOf (reading 1) g (classRows s 1))
+  unfolding slotAt bandsIn
+  currency-agree g h = let held = at 1 g (omega arith) (omega arith) h in record { below = λ k h′. same-position (held .long k h′) (held .short k h′) }
+
+  commodity-agrees : (g : ℕ) → g < groupCount → Agree commodityBandCount (bandsFrom longs shorts (commodityAt g)) (ladderOf (reading 4) g (classRows s 4))
+  unfolding slotAt bandsIn
+  commodity-agrees g h = let held = at 4 g (omega arith) (omega arith) h in record { below = λ k h′. same-position (held .long k h′) (held .short k h′) }
+
+  equity-agree : Agree groupCount (bandsFrom longs shorts equityFirst) (groupsOf (reading 2) (classRows s 2))
+  unfolding slotAt bandsIn bandIn
+  equity-agree =
       record {
-        below = λ k h′.
-            ap (λ (a : Position). record { long = weightIn table k * a .long; short = weightIn table k * a .short }) (bands-agree 1 rows longs shorts specific of g h .below k h′)
-            ∙ ap (λ (f : Bands). f k) (sym (ladderOf-weighted (reading 1) table g rows));
+        below = λ g h.
+            let held = at 2 g (omega arith) (omega arith) h in
+            same-position (held .long 0 (omega arith) ∙ flat-sum 2 (λ row. refl) (λ row. row .long) g _) (held .short 0 (omega arith) ∙ flat-sum 2 (λ row. refl) (λ row. row .short) g _);
       }
 
-  pub interest-is : (g : ℕ) → g < groupCount → interestFigures (table .percents) (weightedBands table longs shorts g) ≡ interestFiguresOf table g rows
-  unfolding interestFiguresOf
-  interest-is g h = interest-agree (table .percents) (weighted-agree g h)
+  exchange-agree : Agree groupCount (bandsFrom longs shorts exchangeFirst) (groupsOf (reading 3) (classRows s 3))
+  unfolding slotAt bandsIn bandIn
+  exchange-agree =
+      record {
+        below = λ g h.
+            let held = at 3 g (omega arith) (omega arith) h in
+            same-position (held .long 0 (omega arith) ∙ flat-sum 3 (λ row. refl) (λ row. row .long) g _) (held .short 0 (omega arith) ∙ flat-sum 3 (λ row. refl) (λ row. row .short) g _);
+      }
 
-  pub interest-sum : sumOf (λ g. interestFigures (table .percents) (weightedBands table longs shorts g) .charge) groups ≡ interestGeneral table rows
-  unfolding interestGeneral
-  interest-sum = sum-same _ _ groupCount (λ g h. ap (λ figures. figures .charge) (interest-is g h))
+  specific-one : sumOf (λ g. getD specifics (0 + g) 0) groups ≡ specificCharge 1 (classRows s 1)
+  specific-one = sum-same _ _ groupCount (λ g h. at 1 g (omega arith) (omega arith) h .specific) ∙ specific-groups s ok 1 (omega arith) (omega arith)
 
--- ---- commodities
-module _ (rows : List Row) (longs shorts : List ℕ) (specific : ℕ) (of : SumsOf 4 rows longs shorts specific) where
-  near-agree : (g : ℕ) → g < groupCount → Agree commodityBandCount (tableBands longs shorts g) (ladderOf (reading 4) g rows)
-  near-agree g h = record { below = λ k h′. bands-agree 4 rows longs shorts specific of g h .below k (omega arith) }
+  specific-two : sumOf (λ g. getD specifics (32 + g) 0) groups ≡ specificCharge 2 (classRows s 2)
+  specific-two = sum-same _ _ groupCount (λ g h. at 2 g (omega arith) (omega arith) h .specific) ∙ specific-groups s ok 2 (omega arith) (omega arith)
 
-  pub commodity-is : (g : ℕ) → g < groupCount → commodityFigures (tableBands longs shorts g) ≡ commodityFiguresOf g rows
-  unfolding commodityFiguresOf
-  commodity-is g h = commodity-agree (near-agree g h)
-
-  pub commodity-sum : sumOf (λ g. commodityFigures (tableBands longs shorts g) .charge) groups ≡ commodityGeneral rows
-  unfolding commodityGeneral
-  commodity-sum = sum-same _ _ groupCount (λ g h. ap (λ figures. figures .charge) (commodity-is g h))
-
--- ---- equity and foreign exchange
-module _ (class : ℕ) (flat : (row : Row) → bandIn class row ≡ 0) (rows : List Row) (longs shorts : List ℕ) (specific : ℕ) (of : SumsOf class rows longs shorts specific) where
-  pub absolutes-are : absoluteNets groups (tableGroups longs shorts) ≡ absoluteNets groups (groupsOf (reading class) rows)
-  absolutes-are = absolutes-agree (groups-agree class rows longs shorts specific of flat)
-
-  pub shorthand-is : shorthand currencies (tableGroups longs shorts) ≡ shorthand currencies (groupsOf (reading class) rows)
-  shorthand-is = shorthand-agree (groups-agree class rows longs shorts specific of flat)
-
-  pub groups-fit : Every (Clean class) rows → length rows ≤ mostRows → gross (total (tableGroups longs shorts) groups) ≤ mostGross
-  groups-fit clean few = omega (arith, gross-agree (groups-agree class rows longs shorts specific of flat), groups-rate class rows, amounts-most class clean few)
+  pub costs : Costs table s longs shorts specifics rows
+  unfolding interestGeneral commodityGeneral equityGeneral exchangeGeneral legCounted
+  costs =
+      record {
+        longs-sized = rw (sums .is-longs) (length-tally legSlot legLong (replicate slotCount 0) (legsOf s) ∙ length-replicate {A = ℕ} slotCount 0);
+        shorts-sized = rw (sums .is-shorts) (length-tally legSlot legShort (replicate slotCount 0) (legsOf s) ∙ length-replicate {A = ℕ} slotCount 0);
+        interest-fits = omega (arith, ladders-fit 1 bandCount (classRows s 1) _ currency-agree, amounts-most s ok 1 (omega arith) (omega arith));
+        currency-unused = λ g h none. unused-none 1 bandCount (classRows s 1) _ currency-agree g h
+            (none-counted 1 g (classRows s 1) (λ row. refl) (sym (at 1 g (omega arith) (omega arith) h .counted) ∙ none));
+        commodity-fits = omega (arith, ladders-fit 4 commodityBandCount (classRows s 4) _ commodity-agrees, amounts-most s ok 4 (omega arith) (omega arith));
+        commodity-unused = λ g h none. unused-none 4 commodityBandCount (classRows s 4) _ commodity-agrees g h
+            (none-counted 4 g (classRows s 4) (λ row. refl) (sym (at 4 g (omega arith) (omega arith) h .counted) ∙ none));
+        equity-fits = omega (arith, gross-agree equity-agree, groups-rate 2 (classRows s 2), amounts-most s ok 2 (omega arith) (omega arith));
+        exchange-fits = omega (arith, gross-agree exchange-agree, groups-rate 3 (classRows s 3), amounts-most s ok 3 (omega arith) (omega arith));
+        interest-specific-fits = omega (arith, specific-one, specific-most s ok 1 (omega arith) (omega arith));
+        equity-specific-fits = omega (arith, specific-two, specific-most s ok 2 (omega arith) (omega arith));
+        interest-is = sum-same _ _ groupCount (λ g h. ap (λ figures. figures .charge) (interest-from longs shorts (currencyAt g) g (classRows s 1) table (currency-agree g h)));
+        commodity-is = sum-same _ _ groupCount (λ g h. ap (λ figures. figures .charge) (commodity-from longs shorts (commodityAt g) g (classRows s 4) (commodity-agrees g h)));
+        equity-is = ap (λ (n : ℕ). eightPerCent * n) (absolutes-agree equity-agree);
+        exchange-is = ap (λ (n : ℕ). eightPerCent * n) (shorthand-agree exchange-agree);
+        interest-specific-is = specific-one;
+        equity-specific-is = specific-two;
+      }

@@ -24,7 +24,7 @@ unfoldable pub amounts : List Row → ℕ
 amounts rows = sumOf (λ row. row .long + row .short) rows
 
 -- a clean row has its amount on one side
-amount-within : (class : ℕ) (row : Row) → Clean class row → row .long + row .short ≤ mostAmount
+pub amount-within : (class : ℕ) (row : Row) → Clean class row → row .long + row .short ≤ mostAmount
 amount-within class row clean = ⊎-elim (λ h. omega (arith, clean .long)) (λ h. omega (arith, clean .short)) (clean .one-side)
 
 -- the amounts of a class's rows

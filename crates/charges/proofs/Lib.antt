@@ -1,8 +1,13 @@
 -- Laws of the charges' definitions, for the proofs of this crate and of the crates above it.
+pub mod Arrays
 pub mod Columns
 pub mod Legs
+pub mod Listing
+pub mod Places
+pub mod Progress
+pub mod Sorting
 pub mod Tallying
-pub mod Slots
 pub mod Rates
+pub mod Figures
 pub mod Costs
 pub mod Reporting

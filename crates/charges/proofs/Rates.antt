@@ -11,7 +11,7 @@ use Rattle.ladder.specs.Rows.{groupsOf}
 use Rattle.ladder.proofs.Netting.{absolutes-within, shorthand-within}
 use Rattle.ladder.proofs.Bounds.{groups-within, general-within, commodities-within}
 use Rattle.charges.specs.Charges.{eightPerCent, groups, currencies, reading, interestFiguresOf, commodityFiguresOf, interestGeneral, equityGeneral, exchangeGeneral, commodityGeneral}
-use Rattle.charges.specs.Inner.Tables.{groupCount}
+use Rattle.charges.specs.Inner.Slots.{groupCount}
 use Rattle.charges.proofs.Legs.{amounts}
 
 pub interest-rate : (table : Table) → AcceptedTable table → (rows : List Row) → interestGeneral table rows ≤ 200000 * amounts rows

@@ -1,11 +1,13 @@
--- From what was read of a book to its report: the rows of each part, and that the total is no number too large.
+-- From what a pass took, or what was read of a book, to the answers of the calls: the report, and the figures of a ladder.
 -- Assumes nothing.
-use mathlib.Core.Path.{_≡_, sym, ap, _∙_}
+use mathlib.Core.Path.{_≡_, sym, ap, subst, _∙_}
 use mathlib.Core.Bool.{cond}
 use mathlib.Core.List.{List}
 use Prim.Native.Nat.{ℕ, _+_, _≤_, _<_}
 use native.Mathlib.Omega.{arith}
 use lib.Dec.{eqb}
+use lib.ListN.{length}
+use lib.Seq.{take-all}
 use borrow.Author.Tests.{lt-ltb, le-ltb, eq-eqb, ne-eqb}
 use Rattle.sums.proofs.Cases.{either}
 use Rattle.book.specs.declared.Row.{Row}
@@ -13,17 +15,93 @@ use Rattle.book.specs.declared.Refusal.{Refusal}
 use Rattle.book.specs.declared.Checked.{Checked}
 use Rattle.book.specs.declared.Counts.{Counts}
 use Rattle.book.specs.Counts.{countIn, rowCount}
+use Rattle.book.specs.Legs.{Leg, legsOf}
 use Rattle.book.specs.Refusals.{lastGroup, refused, refusalOf}
+use Rattle.book.specs.Accepted.{Accepted}
 use Rattle.book.specs.Inner.Reading.{noCounts, checkedWith, checkedOf, partRows, ReadOf}
-use Rattle.book.specs.Parts.{partOf}
+use Rattle.book.specs.Parts.{accepts, partOf}
 use Rattle.ladder.specs.Table.{Table, AcceptedTable}
-use Rattle.charges.specs.Charges.{specificCharge, exchangeGeneral, commodityGeneral, interestRisk, equityRisk}
-use Rattle.charges.specs.Report.{classRows, ladderRefusal}
-use Rattle.charges.specs.Inner.Tables.{CleanPart}
+use Rattle.charges.specs.Charges.{specificCharge, interestGeneral, equityGeneral, exchangeGeneral, commodityGeneral, interestRisk, equityRisk}
+use Rattle.charges.specs.Report.{Report, classRows, reportWith, refusedReport, reportOf, ladderRefusal}
+use Rattle.charges.specs.Inner.Slots.{LegSums}
+use Rattle.charges.specs.Inner.Pass.{Taken, takenOf, passed}
+use Rattle.charges.specs.Inner.Ladders.{CleanPart}
 use Rattle.charges.specs.Inner.Answers.{mostTotal, ladderChecked, LadderRead}
 use Rattle.charges.proofs.Legs.{amounts-within, specific-within}
 use Rattle.charges.proofs.Rates.{interest-rate, equity-rate, exchange-rate, commodity-rate}
+use Rattle.charges.proofs.Costs.{rows-clean, rows-many}
 
+-- ---- the report
+-- no total is over 280,000 mils for each unit of 4,000 rows of the largest amount
+pub total-fits : (table : Table) → AcceptedTable table → (s : List ℕ) → Accepted s
+    → specificCharge 1 (classRows s 1) + interestGeneral table (classRows s 1) + specificCharge 2 (classRows s 2) + equityGeneral (classRows s 2)
+    + exchangeGeneral (classRows s 3) + commodityGeneral (classRows s 4) ≤ mostTotal
+unfolding specificCharge rowCount countIn
+total-fits table ok s of =
+    omega (
+      arith,
+      of .few,
+      rows-many s of 1 (omega arith) (omega arith),
+      rows-many s of 2 (omega arith) (omega arith),
+      rows-many s of 3 (omega arith) (omega arith),
+      rows-many s of 4 (omega arith) (omega arith),
+      amounts-within 1 (rows-clean s of 1 (omega arith) (omega arith)),
+      amounts-within 2 (rows-clean s of 2 (omega arith) (omega arith)),
+      amounts-within 3 (rows-clean s of 3 (omega arith) (omega arith)),
+      amounts-within 4 (rows-clean s of 4 (omega arith) (omega arith)),
+      specific-within 1 (classRows s 1),
+      specific-within 2 (classRows s 2),
+      interest-rate table ok (classRows s 1),
+      equity-rate (classRows s 2),
+      exchange-rate (classRows s 3),
+      commodity-rate (classRows s 4),
+    )
+
+-- the six charges of a book
+pub record Six (table : Table) (s : List ℕ) (interest-specific interest-general equity-specific equity-general exchange commodity : ℕ) : Type 0 where
+  pub is1 : interest-specific ≡ specificCharge 1 (classRows s 1)
+  pub is2 : interest-general ≡ interestGeneral table (classRows s 1)
+  pub is3 : equity-specific ≡ specificCharge 2 (classRows s 2)
+  pub is4 : equity-general ≡ equityGeneral (classRows s 2)
+  pub is5 : exchange ≡ exchangeGeneral (classRows s 3)
+  pub is6 : commodity ≡ commodityGeneral (classRows s 4)
+
+module _ (table : Table) (s : List ℕ) (taken : Taken) (is : taken ≡ takenOf (refusalOf s) (legsOf s)) where
+  taken-refusal : taken .refusal ≡ refusalOf s
+  unfolding takenOf
+  taken-refusal = ap (λ (t : Taken). t .refusal) is
+
+  pub taken-number : taken .refusal .number ≡ refusalOf s .number
+  taken-number = ap (λ (r : Refusal). r .number) taken-refusal
+
+  pub report-refused : (report : Report) → report ≡ refusedReport (taken .refusal) → (taken .refusal .number ≡ 0 → ⊥) → report ≡ reportOf table s
+  unfolding reportOf accepts
+  report-refused report r bad = r ∙ simp (ne-eqb _ _ (λ e. bad (taken-number ∙ e))) (ap refusedReport taken-refusal)
+
+  module _ (good : taken .refusal .number ≡ 0) where
+    none-refused : refusalOf s .number ≡ 0
+    none-refused = sym taken-number ∙ good
+
+    -- each row was taken, and is in the sums
+    taken-all : taken .rows ≡ length (legsOf s)
+    unfolding takenOf
+    taken-all = ap (λ (t : Taken). t .rows) is ∙ simp (eq-eqb _ _ none-refused)
+
+    pub sums-all : {longs shorts specifics rows : List ℕ} → LegSums (passed (refusalOf s) (legsOf s)) longs shorts specifics rows → LegSums (legsOf s) longs shorts specifics rows
+    unfolding passed
+    sums-all {longs} {shorts} {specifics} {rows} sums =
+        subst (λ (legs : List Leg). LegSums legs longs shorts specifics rows) (take-all (length (legsOf s)) (legsOf s) (omega arith)) (simp (eq-eqb _ _ none-refused) at sums)
+
+    module _ (p g q h x y : ℕ) (six : Six table s p g q h x y) where
+      pub six-fit : AcceptedTable table → Accepted s → p + g + q + h + x + y ≤ mostTotal
+      six-fit ok of = omega (arith, total-fits table ok s of, six .is1, six .is2, six .is3, six .is4, six .is5, six .is6)
+
+      pub report-charged : (report : Report) → report ≡ reportWith (record { specific = p; general = g }) (record { specific = q; general = h }) x y (taken .rows) → report ≡ reportOf table s
+      unfolding reportOf accepts interestRisk equityRisk
+      report-charged report r =
+          r ∙ simp (eq-eqb _ _ none-refused) (rw (six .is1, six .is2, six .is3, six .is4, six .is5, six .is6, taken-all))
+
+-- ---- a part that was read
 -- no class has more rows than all
 part-within : (counts : Counts) (class : ℕ) → countIn counts class ≤ rowCount counts
 unfolding countIn rowCount
@@ -32,41 +110,9 @@ part-within counts class =
     (either (eqb class 2) (counts .equity) _ (omega arith)
     (either (eqb class 3) (counts .exchange) _ (omega arith) (either (eqb class 4) (counts .commodity) 0 (omega arith) (omega arith))))
 
--- ---- what was read
-module _ (s : List ℕ) (checked : Checked) (read : ReadOf s checked) where
-  pub read-refusal : checked .refusal ≡ refusalOf s
-  unfolding checkedOf checkedWith
-  read-refusal = ap (λ (x : Checked). x .refusal) (read .is)
-
-  pub read-part : (class : ℕ) → 1 ≤ class → class ≤ 4 → CleanPart class (partOf s class)
-  read-part class low high =
-      record { clean = read .clean class low high; few = omega (arith, read .sizes class, read .few, part-within (checked .counts) class) }
-
-  -- no total is over 280,000 mils for each unit of 4,000 rows of the largest amount
-  pub total-fits : (table : Table) → AcceptedTable table
-      → interestRisk table (partRows (partOf s 1)) .specific + interestRisk table (partRows (partOf s 1)) .general
-      + equityRisk (partRows (partOf s 2)) .specific + equityRisk (partRows (partOf s 2)) .general
-      + exchangeGeneral (partRows (partOf s 3)) + commodityGeneral (partRows (partOf s 4)) ≤ mostTotal
-  unfolding interestRisk equityRisk specificCharge rowCount countIn
-  total-fits table ok =
-      omega (
-        arith,
-        read .few,
-        read .sizes 1,
-        read .sizes 2,
-        read .sizes 3,
-        read .sizes 4,
-        amounts-within 1 (read .clean 1 (omega arith) (omega arith)),
-        amounts-within 2 (read .clean 2 (omega arith) (omega arith)),
-        amounts-within 3 (read .clean 3 (omega arith) (omega arith)),
-        amounts-within 4 (read .clean 4 (omega arith) (omega arith)),
-        specific-within 1 (partRows (partOf s 1)),
-        specific-within 2 (partRows (partOf s 2)),
-        interest-rate table ok (partRows (partOf s 1)),
-        equity-rate (partRows (partOf s 2)),
-        exchange-rate (partRows (partOf s 3)),
-        commodity-rate (partRows (partOf s 4)),
-      )
+pub read-part : (s : List ℕ) (checked : Checked) → ReadOf s checked → (class : ℕ) → 1 ≤ class → class ≤ 4 → CleanPart class (partOf s class)
+read-part s checked read class low high =
+    record { clean = read .clean class low high; few = omega (arith, read .sizes class, read .few, part-within (checked .counts) class) }
 
 -- ---- what a ladder call reads
 module _ (s : List ℕ) (group : ℕ) where

@@ -1,77 +1,90 @@
 -- Tables of sums that are filled row by row: what they hold after some rows, and that there is room for the next.
 -- Assumes nothing.
-use mathlib.Core.Path.{_≡_, refl, sym, ap, _∙_}
+use mathlib.Core.Path.{_≡_, sym, ap, _∙_}
+use mathlib.Core.Bool.{false}
 use mathlib.Core.List.{List, [], _∷_, _++_, map}
 use Prim.Native.Nat.{ℕ, suc, _+_, _≤_, _<_}
 use native.Mathlib.Numerals.{add-one}
 use native.Mathlib.Omega.{arith}
+use borrow.Author.Tests.{eq-eqb, ne-eqb}
+use lib.Dec.{eqb}
 use lib.ListN.{length, take, drop, getD, set, replicate, List·getD-map}
-use lib.Seq.{take-suc, split-at, take-all}
+use lib.Seq.{take-suc, split-at}
+use Rattle.sums.specs.Sums.{sumOf}
+use Rattle.sums.specs.Inner.Tables.{tally, placed}
+use Rattle.sums.proofs.Cases.{counted≤}
+use Rattle.sums.proofs.Sums.{sumOf≤}
+use Rattle.sums.proofs.Tables.{placed-none, tally-last, tally-room}
 use Rattle.book.specs.declared.Row.{Row}
 use Rattle.book.specs.Rows.{rowsIn, decode}
 use Rattle.book.specs.Inner.Reading.{rowOf}
-use Rattle.sums.specs.Sums.{sumOf}
-use Rattle.sums.specs.Inner.Tables.{tally, placed}
-use Rattle.sums.proofs.Sums.{sumOf-append}
-use Rattle.sums.proofs.Tables.{tally-last, tally-room}
-use Rattle.charges.specs.Charges.{specificOf}
-use Rattle.charges.specs.Inner.Tables.{SumsOf, slotIn}
+use Rattle.ladder.specs.Rows.{inGroup}
+use Rattle.ladder.specs.Inner.Steps.{bandCount}
+use Rattle.charges.specs.Bands.{bandIn}
+use Rattle.charges.specs.Charges.{reading}
+use Rattle.charges.specs.Inner.Ladders.{GroupSums}
 
 -- the rows of a part, by number
-pub leg-at : (part : List ℕ) (i : ℕ) → getD (map decode (rowsIn part)) i (decode []) ≡ rowOf part i
+pub row-at : (part : List ℕ) (i : ℕ) → getD (map decode (rowsIn part)) i (decode []) ≡ rowOf part i
 unfolding rowOf
-leg-at part i = List·getD-map decode (rowsIn part) i []
+row-at part i = List·getD-map decode (rowsIn part) i []
 
--- the sums after i rows
-pub record Taken (class : ℕ) (rows : List Row) (i : ℕ) (longs shorts : List ℕ) (specific : ℕ) : Type 0 where
-  pub passed : i ≤ length rows
-  pub is-longs : longs ≡ tally (slotIn class) (λ row. row .long) (replicate 480 0) (take i rows)
-  pub is-shorts : shorts ≡ tally (slotIn class) (λ row. row .short) (replicate 480 0) (take i rows)
-  pub is-specific : specific ≡ sumOf (specificOf class) (take i rows)
-
-pub none-taken : (class : ℕ) (rows : List Row) → Taken class rows 0 (replicate 480 0) (replicate 480 0) 0
-unfolding sumOf
-none-taken class rows = record { passed = omega arith; is-longs = refl; is-shorts = refl; is-specific = refl }
-
-module _ (class : ℕ) (rows : List Row) (i : ℕ) (row : Row) (within : i < length rows) (is-row : row ≡ getD rows i (decode [])) where
-  -- the rows passed, and then this one
+-- ---- one table of n sums, after i rows, and the next row
+module _ {A : Type 0} (index amount : A → ℕ) (n : ℕ) (rows : List A) (i : ℕ) (d row : A) (within : i < length rows) (is-row : row ≡ getD rows i d) (table : List ℕ)
+    (is : table ≡ tally index amount (replicate n 0) (take i rows)) where
   next-rows : take (i + 1) rows ≡ take i rows ++ (row ∷ [])
-  next-rows = rw (add-one i, is-row) (take-suc rows i (decode []) within)
+  next-rows = rw (add-one i, is-row) (take-suc rows i d within)
 
-  all-rows : take i rows ++ (row ∷ drop (suc i) rows) ≡ rows
-  all-rows = rw is-row (sym (split-at rows i (decode []) within))
+  pub table-next : placed index amount table row ≡ tally index amount (replicate n 0) (take (i + 1) rows)
+  table-next = rw (next-rows, is) (sym (tally-last index amount (replicate n 0) (take i rows) row))
 
-  -- one side's table, with the row added
-  table-next : (amount : Row → ℕ) (table : List ℕ) → table ≡ tally (slotIn class) amount (replicate 480 0) (take i rows)
-      → set table (slotIn class row) (getD table (slotIn class row) 0 + amount row) ≡ tally (slotIn class) amount (replicate 480 0) (take (i + 1) rows)
-  table-next amount table is =
-      rw (next-rows, is) (sym (tally-last (slotIn class) amount (replicate 480 0) (take i rows) row))
+  -- a row without an amount changes nothing
+  pub table-kept : amount row ≡ 0 → table ≡ tally index amount (replicate n 0) (take (i + 1) rows)
+  table-kept nothing = sym (placed-none index amount table row nothing) ∙ table-next
 
-  pub next-taken : (longs shorts : List ℕ) (specific : ℕ) → Taken class rows i longs shorts specific → Taken class rows (i + 1)
-      (placed (slotIn class) (λ r. r .long) longs row) (placed (slotIn class) (λ r. r .short) shorts row) (specific + specificOf class row)
-  unfolding sumOf
-  next-taken longs shorts specific taken =
-      record {
-        passed = omega arith;
-        is-longs = table-next (λ r. r .long) longs (taken .is-longs);
-        is-shorts = table-next (λ r. r .short) shorts (taken .is-shorts);
-        is-specific = rw (next-rows, taken .is-specific) (omega (arith, sumOf-append (specificOf class) (take i rows) (row ∷ [])));
-      }
+  -- room for the row's amount
+  pub table-room : index row < n → getD table (index row) 0 + amount row ≤ sumOf amount rows
+  table-room h =
+      let all : take i rows ++ (row ∷ drop (suc i) rows) ≡ rows = rw is-row (sym (split-at rows i d within)) in
+      rw is (rw all at (tally-room index amount n (take i rows) row (drop (suc i) rows) (index row) h))
 
-  -- room for the row's amount in its slot
-  pub table-room : (amount : Row → ℕ) (table : List ℕ) → table ≡ tally (slotIn class) amount (replicate 480 0) (take i rows) → slotIn class row < 480
-      → getD table (slotIn class row) 0 + amount row ≤ sumOf amount rows
-  table-room amount table is h =
-      rw is (rw all-rows at (tally-room (slotIn class) amount 480 (take i rows) row (drop (suc i) rows) (slotIn class row) h))
+-- ---- the two arrays of a group: a row of the group adds its amounts at its band, a row of another adds nothing
+module _ (class group : ℕ) (rows : List Row) (i : ℕ) (row : Row) (within : i < length rows) (is-row : row ≡ getD rows i (decode [])) where
+  abbrev grouped : (Row → ℕ) → Row → ℕ
+  grouped = inGroup (reading class) group
 
-  pub specific-room : (specific : ℕ) → specific ≡ sumOf (specificOf class) (take i rows) → specific + specificOf class row ≤ sumOf (specificOf class) rows
-  unfolding sumOf
-  specific-room specific is =
-      rw is (omega (arith, sumOf-append (specificOf class) (take i rows) (row ∷ drop (suc i) rows), ap (sumOf (specificOf class)) all-rows))
+  abbrev summed : (Row → ℕ) → List ℕ → Type 0
+  summed amount table = table ≡ tally (bandIn class) (grouped amount) (replicate bandCount 0) (take i rows)
 
--- after the last row the tables hold the sums of all
-pub all-taken : (class : ℕ) (rows : List Row) (i : ℕ) (longs shorts : List ℕ) (specific : ℕ) → Taken class rows i longs shorts specific → length rows ≤ i
-    → SumsOf class rows longs shorts specific
-all-taken class rows i longs shorts specific taken done =
-    let all = take-all i rows done in
-    record { is-longs = taken .is-longs ∙ rw all; is-shorts = taken .is-shorts ∙ rw all; is-specific = taken .is-specific ∙ rw all }
+  own : (amount : Row → ℕ) → row .group ≡ group → grouped amount row ≡ amount row
+  own amount e = rw (eq-eqb (row .group) group e)
+
+  side-next : (amount : Row → ℕ) (table : List ℕ) → summed amount table → row .group ≡ group
+      → placed (bandIn class) amount table row ≡ tally (bandIn class) (grouped amount) (replicate bandCount 0) (take (i + 1) rows)
+  side-next amount table is e =
+      let at = bandIn class row in
+      ap (λ (more : ℕ). set table at (getD table at 0 + more)) (sym (own amount e))
+      ∙ table-next (bandIn class) (grouped amount) bandCount rows i (decode []) row within is-row table is
+
+  pub side-room : (amount : Row → ℕ) (table : List ℕ) → summed amount table → row .group ≡ group → bandIn class row < bandCount
+      → getD table (bandIn class row) 0 + amount row ≤ sumOf amount rows
+  side-room amount table is e h =
+      omega (
+        arith,
+        table-room (bandIn class) (grouped amount) bandCount rows i (decode []) row within is-row table is h,
+        own amount e,
+        sumOf≤ (grouped amount) amount rows (λ r m. counted≤ (eqb (r .group) group) (amount r)),
+      )
+
+  module _ (longs shorts : List ℕ) (of : GroupSums class group (take i rows) longs shorts) where
+    pub group-next : row .group ≡ group
+        → GroupSums class group (take (i + 1) rows) (placed (bandIn class) (λ r. r .long) longs row) (placed (bandIn class) (λ r. r .short) shorts row)
+    group-next e = record { is-longs = side-next (λ r. r .long) longs (of .is-longs) e; is-shorts = side-next (λ r. r .short) shorts (of .is-shorts) e }
+
+    pub group-kept : (row .group ≡ group → ⊥) → GroupSums class group (take (i + 1) rows) longs shorts
+    group-kept other =
+        let nothing : eqb (row .group) group ≡ false = ne-eqb (row .group) group other in
+        record {
+          is-longs = table-kept (bandIn class) (grouped (λ r. r .long)) bandCount rows i (decode []) row within is-row longs (of .is-longs) (rw nothing);
+          is-shorts = table-kept (bandIn class) (grouped (λ r. r .short)) bandCount rows i (decode []) row within is-row shorts (of .is-shorts) (rw nothing);
+        }

@@ -3,6 +3,7 @@ use Prim.Native.Nat.{ℕ, _+_}
 use mathlib.Core.Bool.{cond}
 use mathlib.Core.List.{List}
 use lib.Dec.{ltb, eqb}
+use lib.ListN.{length}
 use Rattle.book.specs.declared.Row.{Row}
 use Rattle.book.specs.declared.Refusal.{Refusal}
 use Rattle.book.specs.Legs.{legsOf, ofClass}
@@ -22,9 +23,9 @@ abbrev pub classRows : List ℕ → ℕ → List Row
 classRows s class = ofClass class (legsOf s)
 
 -- ---- the report
--- six charges: their sum is the total (document 01, The book file)
-unfoldable pub reportWith : (interest equity : Risk) (exchange commodity : ℕ) → Report
-reportWith interest equity exchange commodity =
+-- six charges: their sum is the total (document 01, The book file); and how many rows were taken for them (P4)
+unfoldable pub reportWith : (interest equity : Risk) (exchange commodity taken : ℕ) → Report
+reportWith interest equity exchange commodity taken =
     record {
       refusal = refused 0 0;
       interest = interest;
@@ -32,21 +33,22 @@ reportWith interest equity exchange commodity =
       exchange = exchange;
       commodity = commodity;
       total = interest .specific + interest .general + equity .specific + equity .general + exchange + commodity;
+      taken = taken;
     }
 
--- no charge at all (document 01, Who is told no, and why)
+-- no charge and no row (document 01, Who is told no, and why; P4)
 abbrev pub noRisk : Risk
 noRisk = record { specific = 0; general = 0 }
 
 unfoldable pub refusedReport : Refusal → Report
 refusedReport refusal =
-    record { refusal = refusal; interest = noRisk; equity = noRisk; exchange = 0; commodity = 0; total = 0 }
+    record { refusal = refusal; interest = noRisk; equity = noRisk; exchange = 0; commodity = 0; total = 0; taken = 0 }
 
--- the report of any bytes, by a table (document 01, The book file; Who is told no, and why)
+-- the report of any bytes, by a table; each row of an accepted book is taken (document 01, The book file; Who is told no, and why; P4)
 unfoldable pub reportOf : Table → List ℕ → Report
 reportOf table s =
     cond (accepts s)
-    (reportWith (interestRisk table (classRows s 1)) (equityRisk (classRows s 2)) (exchangeGeneral (classRows s 3)) (commodityGeneral (classRows s 4)))
+    (reportWith (interestRisk table (classRows s 1)) (equityRisk (classRows s 2)) (exchangeGeneral (classRows s 3)) (commodityGeneral (classRows s 4)) (length (legsOf s)))
     (refusedReport (refusalOf s))
 
 -- ---- the ladder calls

@@ -1,17 +1,23 @@
-// The bands of rows: constant tables of weights and of last days, indexed by band.
+// The bands of rows: the last days of the bands, column by column, and the weights of the interest bands.
 use book::Row;
 use ladder::BANDS;
 ghost use mathlib.Core.Path.{_≡_};
 ghost use mathlib.Core.Bool.{true};
-ghost use Prim.Native.Nat.{_<_, _≤_};
-ghost use lib.ListN.{length};
-ghost use Rattle.book.specs.Refusals.{lastGroup};
+ghost use Prim.Native.Nat.{_+_, _<_, _≤_};
+ghost use lib.ListN.{length, getD};
+ghost use Rattle.ladder.specs.Commodity.{commodityBandCount};
 ghost use Rattle.ladder.specs.Inner.Steps.{bandCount};
-ghost use Rattle.charges.specs.Bands.{firstBand, interestBand, bandIn};
-ghost use Rattle.charges.specs.Inner.Tables.{ascending, slotCount, slotIn};
+ghost use Rattle.charges.specs.Bands.{firstBand, interestBand, commodityBand, bandIn};
+ghost use Rattle.charges.specs.Inner.Columns.{ascending, columnSize, columns as allColumns, columnFrom};
 
-// The last days of the bands at coupons of 300 basis points or more; the band after them is over 7200.
-const HIGH_COLUMN: [u16; 12] = [
+// The places of a column, and of three columns.
+const COLUMN: usize = 16;
+
+pub const PLACES: usize = 3 * COLUMN;
+
+// The last days of the bands at coupons of 300 basis points or more, of those at coupons below 300, and of a commodity's bands: a column is
+// filled up with what no days are above.
+pub const COLUMNS: [u16; PLACES] = [
     30,
     90,
     180,
@@ -24,10 +30,10 @@ const HIGH_COLUMN: [u16; 12] = [
     3600,
     5400,
     7200,
-];
-
-// At coupons below 300.
-const LOW_COLUMN: [u16; 14] = [
+    65535,
+    65535,
+    65535,
+    65535,
     30,
     90,
     180,
@@ -42,10 +48,25 @@ const LOW_COLUMN: [u16; 14] = [
     3816,
     4320,
     7200,
+    65535,
+    65535,
+    30,
+    90,
+    180,
+    360,
+    720,
+    1080,
+    65535,
+    65535,
+    65535,
+    65535,
+    65535,
+    65535,
+    65535,
+    65535,
+    65535,
+    65535,
 ];
-
-// The last days of a commodity's bands; the band after them is over 1080.
-const COMMODITY_COLUMN: [u16; 6] = [30, 90, 180, 360, 720, 1080];
 
 // The weights of the interest bands, in basis points.
 pub const WEIGHTS: [u64; BANDS] = [
@@ -66,47 +87,47 @@ pub const WEIGHTS: [u64; BANDS] = [
     1250,
 ];
 
-// The first band whose last day is not below the days: as many last days as are below them, since the column ascends.
-fn first_band(column: &[u16], days: u16) -> usize
-    requires { ⌜ ascending (now column) ≡ true ⌝ }
-    ensures { λ r. ⌜ (r ≡ firstBand days (now (column .entry))) × (r ≤ length (now (column .entry))) ⌝ }
+// The first band whose last day is not below the days, in the column from a place on: the quarter of the column that it is in, and where
+// in the quarter it is. No branch depends on the days.
+fn first_band(columns: &[u16; PLACES], first: usize, days: u16) -> usize
+    requires { ⌜ (length (now columns) ≡ 48) × (first + columnSize ≤ 48) ⌝ }
+    requires { ⌜ (ascending (columnFrom first (now columns)) ≡ true) × (days ≤ getD (now columns) (first + 15) 0) ⌝ }
+    ensures { λ r. ⌜ r ≡ firstBand days (columnFrom first (now (columns .entry))) ⌝ }
 {
-    let mut band: usize = 0;
-    let mut i: usize = 0;
-    while i < column.len() {
-        if column[i] < days {
-            band += 1;
-        }
-        i += 1;
-    }
-    band
+    let quarter = ((columns[first + 3] < days) as usize)
+        + ((columns[first + 7] < days) as usize)
+        + ((columns[first + 11] < days) as usize);
+    let at = first + 4 * quarter;
+    4 * quarter
+        + ((columns[at] < days) as usize)
+        + ((columns[at + 1] < days) as usize)
+        + ((columns[at + 2] < days) as usize)
 }
 
-fn interest_band(row: Row) -> usize
+// The band of an interest row.
+pub fn interest_band(row: Row, columns: &[u16; PLACES]) -> usize
+    requires { ⌜ now columns ≡ allColumns ⌝ }
     ensures { λ r. ⌜ (r ≡ interestBand row) × (r < bandCount) ⌝ }
 {
-    if row.coupon < 300 {
-        first_band(&LOW_COLUMN, row.days)
-    } else {
-        first_band(&HIGH_COLUMN, row.days)
-    }
+    first_band(columns, COLUMN * ((row.coupon < 300) as usize), row.days)
+}
+
+// The band of a commodity row.
+pub fn commodity_band(row: Row, columns: &[u16; PLACES]) -> usize
+    requires { ⌜ now columns ≡ allColumns ⌝ }
+    ensures { λ r. ⌜ (r ≡ commodityBand row) × (r < commodityBandCount) ⌝ }
+{
+    first_band(columns, 2 * COLUMN, row.days)
 }
 
 // The band of a row of a class, 0 in a class without bands.
-fn band_in(class: usize, row: Row) -> usize
+pub fn band_in(class: usize, row: Row, columns: &[u16; PLACES]) -> usize
+    requires { ⌜ now columns ≡ allColumns ⌝ }
     ensures { λ r. ⌜ (r ≡ bandIn class row) × (r < bandCount) ⌝ }
 {
     match class {
-        1 => interest_band(row),
-        4 => first_band(&COMMODITY_COLUMN, row.days),
+        1 => interest_band(row, columns),
+        4 => commodity_band(row, columns),
         _ => 0,
     }
-}
-
-// The slot of a row in the tables of sums: fifteen to a group, one a band.
-pub fn slot_in(class: usize, row: Row) -> usize
-    requires { ⌜ row .group ≤ lastGroup ⌝ }
-    ensures { λ r. ⌜ (r ≡ slotIn class row) × (r < slotCount) ⌝ }
-{
-    BANDS * (row.group as usize) + band_in(class, row)
 }

@@ -1,20 +1,28 @@
 // The general charges, from the tables of sums.
+use crate::slots::COMMODITY;
+use crate::slots::EQUITY;
+use crate::slots::EXCHANGE;
+use crate::slots::GROUP_SLOTS;
+use crate::slots::GROUPS;
+use crate::slots::SLOTS;
 use crate::tables;
-use crate::tables::GROUPS;
-use crate::tables::SLOTS;
+use ladder::BANDS;
+use ladder::COMMODITY_BANDS;
 use ladder::CommodityFigures;
 use ladder::InterestFigures;
 use ladder::Percents;
 ghost use mathlib.Core.Path.{_≡_};
-ghost use Prim.Native.Nat.{_*_, _<_, _≤_};
+ghost use Prim.Native.Nat.{ℕ, _+_, _*_, _<_, _≤_};
+ghost use lib.ListN.{length, getD};
 ghost use Rattle.sums.specs.Sums.{sumOf};
-ghost use Rattle.ladder.specs.Position.{gross, total};
 ghost use Rattle.ladder.specs.Table.{standardTable};
 ghost use Rattle.ladder.specs.Interest.{interestFigures};
-ghost use Rattle.ladder.specs.Commodity.{commodityFigures};
+ghost use Rattle.ladder.specs.Commodity.{commodityBandCount, commodityFigures};
 ghost use Rattle.ladder.specs.Nets.{absoluteNets, shorthand};
+ghost use Rattle.ladder.specs.Inner.Steps.{bandCount};
 ghost use Rattle.charges.specs.Charges.{eightPerCent, groups, currencies};
-ghost use Rattle.charges.specs.Inner.Tables.{groupCount, mostGross, tableBands, tableGross, weightedBands, tableGroups};
+ghost use Rattle.charges.specs.Inner.Slots.{groupCount, equityFirst, exchangeFirst, slotCount};
+ghost use Rattle.charges.specs.Inner.Tables.{mostGross, bandsFrom, grossFrom, weightedFrom, currencyAt, commodityAt};
 
 // 8% of an amount unit, in mils.
 const EIGHT_PER_CENT: u64 = 80000;
@@ -33,82 +41,92 @@ fn percents() -> Percents
     }
 }
 
-// The interest ladder of a currency.
-pub fn interest_figures(
-    longs: &[u64; SLOTS],
-    shorts: &[u64; SLOTS],
-    group: usize,
-) -> InterestFigures
-    requires { ⌜ (group < groupCount) × (tableGross (now longs) (now shorts) group ≤ mostGross) ⌝ }
-    ensures { λ r. ⌜ r ≡ interestFigures (standardTable .percents) (weightedBands standardTable (now (longs .entry)) (now (shorts .entry)) group) ⌝ }
+// The interest ladder of a currency, from its first slot on.
+pub fn interest_figures(longs: &[u64], shorts: &[u64], first: usize) -> InterestFigures
+    requires { ⌜ (first + bandCount ≤ length (now longs)) × (first + bandCount ≤ length (now shorts)) × (grossFrom bandCount (now longs) (now shorts) first ≤ mostGross) ⌝ }
+    ensures { λ r. ⌜ r ≡ interestFigures (standardTable .percents) (weightedFrom standardTable (now (longs .entry)) (now (shorts .entry)) first) ⌝ }
 {
-    let weighted_longs = tables::weighted_bands(longs, group);
-    let weighted_shorts = tables::weighted_bands(shorts, group);
+    let weighted_longs = tables::weighted_bands(longs, first);
+    let weighted_shorts = tables::weighted_bands(shorts, first);
     ladder::interest(&weighted_longs, &weighted_shorts, percents())
 }
 
-// The interest ladders of all currencies; one without amounts costs nothing and is passed over.
-pub fn interest_general(longs: &[u64; SLOTS], shorts: &[u64; SLOTS]) -> u64
-    requires { ⌜ sumOf (tableGross (now longs) (now shorts)) groups ≤ mostGross ⌝ }
-    ensures { λ r. ⌜ r ≡ sumOf (λ group. interestFigures (standardTable .percents) (weightedBands standardTable (now (longs .entry)) (now (shorts .entry)) group) .charge) groups ⌝ }
+// The interest ladders of all currencies; one without rows costs nothing and is passed over.
+pub fn interest_general(
+    longs: &[u64; SLOTS],
+    shorts: &[u64; SLOTS],
+    rows: &[u16; GROUP_SLOTS],
+) -> u64
+    requires { ⌜ (length (now longs) ≡ slotCount) × (length (now shorts) ≡ slotCount) ⌝ }
+    requires { ⌜ sumOf (λ group. grossFrom bandCount (now longs) (now shorts) (currencyAt group)) groups ≤ mostGross ⌝ }
+    requires { ⌜ ((group : ℕ) → group < groupCount → getD (now rows) (0 + group) 0 ≡ 0 → grossFrom bandCount (now longs) (now shorts) (currencyAt group) ≡ 0) ⌝ }
+    ensures { λ r. ⌜ r ≡ sumOf (λ group. interestFigures (standardTable .percents) (weightedFrom standardTable (now (longs .entry)) (now (shorts .entry)) (currencyAt group)) .charge) groups ⌝ }
 {
+    let used = tables::used_groups(rows, 0);
+    let list = used.list;
+    let many = used.many;
     let mut charge: u64 = 0;
-    let mut currency: usize = 0;
-    while currency < GROUPS {
-        if tables::group_gross(longs, shorts, currency) != 0 {
-            charge += interest_figures(longs, shorts, currency).charge;
-        }
-        currency += 1;
+    let mut i: usize = 0;
+    while i < many {
+        charge += interest_figures(longs, shorts, BANDS * list[i]).charge;
+        i += 1;
     }
     charge
 }
 
-// The ladder of a commodity.
-pub fn commodity_figures(
-    longs: &[u64; SLOTS],
-    shorts: &[u64; SLOTS],
-    group: usize,
-) -> CommodityFigures
-    requires { ⌜ (group < groupCount) × (tableGross (now longs) (now shorts) group ≤ mostGross) ⌝ }
-    ensures { λ r. ⌜ r ≡ commodityFigures (tableBands (now (longs .entry)) (now (shorts .entry)) group) ⌝ }
+// The ladder of a commodity, from its first slot on.
+pub fn commodity_figures(longs: &[u64], shorts: &[u64], first: usize) -> CommodityFigures
+    requires { ⌜ (first + commodityBandCount ≤ length (now longs)) × (first + commodityBandCount ≤ length (now shorts)) × (grossFrom commodityBandCount (now longs) (now shorts) first ≤ mostGross) ⌝ }
+    ensures { λ r. ⌜ r ≡ commodityFigures (bandsFrom (now (longs .entry)) (now (shorts .entry)) first) ⌝ }
 {
-    let commodity_longs = tables::commodity_bands(longs, group);
-    let commodity_shorts = tables::commodity_bands(shorts, group);
+    let commodity_longs = tables::commodity_bands(longs, first);
+    let commodity_shorts = tables::commodity_bands(shorts, first);
     ladder::commodity(&commodity_longs, &commodity_shorts)
 }
 
-// The ladders of all commodities; one without amounts costs nothing and is passed over.
-pub fn commodity_general(longs: &[u64; SLOTS], shorts: &[u64; SLOTS]) -> u64
-    requires { ⌜ sumOf (tableGross (now longs) (now shorts)) groups ≤ mostGross ⌝ }
-    ensures { λ r. ⌜ r ≡ sumOf (λ group. commodityFigures (tableBands (now (longs .entry)) (now (shorts .entry)) group) .charge) groups ⌝ }
+// The ladders of all commodities; one without rows costs nothing and is passed over.
+pub fn commodity_general(
+    longs: &[u64; SLOTS],
+    shorts: &[u64; SLOTS],
+    rows: &[u16; GROUP_SLOTS],
+) -> u64
+    requires { ⌜ (length (now longs) ≡ slotCount) × (length (now shorts) ≡ slotCount) ⌝ }
+    requires { ⌜ sumOf (λ group. grossFrom commodityBandCount (now longs) (now shorts) (commodityAt group)) groups ≤ mostGross ⌝ }
+    requires { ⌜ ((group : ℕ) → group < groupCount → getD (now rows) (96 + group) 0 ≡ 0 → grossFrom commodityBandCount (now longs) (now shorts) (commodityAt group) ≡ 0) ⌝ }
+    ensures { λ r. ⌜ r ≡ sumOf (λ group. commodityFigures (bandsFrom (now (longs .entry)) (now (shorts .entry)) (commodityAt group)) .charge) groups ⌝ }
 {
+    let used = tables::used_groups(rows, 3 * GROUPS);
+    let list = used.list;
+    let many = used.many;
     let mut charge: u64 = 0;
-    let mut group: usize = 0;
-    while group < GROUPS {
-        if tables::group_gross(longs, shorts, group) != 0 {
-            charge += commodity_figures(longs, shorts, group).charge;
-        }
-        group += 1;
+    let mut i: usize = 0;
+    while i < many {
+        charge += commodity_figures(longs, shorts, COMMODITY + COMMODITY_BANDS * list[i]).charge;
+        i += 1;
     }
     charge
 }
 
 // 8% of the absolute nets of the markets.
 pub fn equity_general(longs: &[u64; SLOTS], shorts: &[u64; SLOTS]) -> u64
-    requires { ⌜ gross (total (tableGroups (now longs) (now shorts)) groups) ≤ mostGross ⌝ }
-    ensures { λ r. ⌜ r ≡ eightPerCent * absoluteNets groups (tableGroups (now (longs .entry)) (now (shorts .entry))) ⌝ }
+    requires { ⌜ (length (now longs) ≡ slotCount) × (length (now shorts) ≡ slotCount) × (grossFrom groupCount (now longs) (now shorts) equityFirst ≤ mostGross) ⌝ }
+    ensures { λ r. ⌜ r ≡ eightPerCent * absoluteNets groups (bandsFrom (now (longs .entry)) (now (shorts .entry)) equityFirst) ⌝ }
 {
-    let group_longs = tables::group_sums(longs);
-    let group_shorts = tables::group_sums(shorts);
-    EIGHT_PER_CENT * ladder::absolute_nets(&group_longs, &group_shorts, GROUPS)
+    let all_longs = &longs[..];
+    let all_shorts = &shorts[..];
+    let market_longs = &all_longs[EQUITY..EXCHANGE];
+    let market_shorts = &all_shorts[EQUITY..EXCHANGE];
+    EIGHT_PER_CENT * ladder::absolute_nets(market_longs, market_shorts, GROUPS)
 }
 
 // 8% of the shorthand net of the currencies, with gold.
 pub fn exchange_general(longs: &[u64; SLOTS], shorts: &[u64; SLOTS]) -> u64
-    requires { ⌜ gross (total (tableGroups (now longs) (now shorts)) groups) ≤ mostGross ⌝ }
-    ensures { λ r. ⌜ r ≡ eightPerCent * shorthand currencies (tableGroups (now (longs .entry)) (now (shorts .entry))) ⌝ }
+    requires { ⌜ (length (now longs) ≡ slotCount) × (length (now shorts) ≡ slotCount) × (grossFrom groupCount (now longs) (now shorts) exchangeFirst ≤ mostGross) ⌝ }
+    ensures { λ r. ⌜ r ≡ eightPerCent * shorthand currencies (bandsFrom (now (longs .entry)) (now (shorts .entry)) exchangeFirst) ⌝ }
 {
-    let group_longs = tables::group_sums(longs);
-    let group_shorts = tables::group_sums(shorts);
-    EIGHT_PER_CENT * ladder::shorthand(&group_longs, &group_shorts, GROUPS - 1)
+    let all_longs = &longs[..];
+    let all_shorts = &shorts[..];
+    let currency_longs = &all_longs[EXCHANGE..SLOTS];
+    let currency_shorts = &all_shorts[EXCHANGE..SLOTS];
+    EIGHT_PER_CENT * ladder::shorthand(currency_longs, currency_shorts, GROUPS - 1)
 }

@@ -1,21 +1,26 @@
 // The charges of a book: its report, and the ladder of one currency or commodity.
+mod adding;
 mod bands;
-mod classes;
 mod general;
-mod rows;
+mod ladders;
+mod pass;
+mod slots;
 mod tables;
 mod weights;
 
+use crate::slots::GROUP_SLOTS;
+use crate::slots::GROUPS;
+use crate::slots::SLOTS;
 use book::Checked;
 use book::LAST_GROUP;
 use book::Refusal;
+use ladder::BANDS;
 use ladder::CommodityFigures;
 use ladder::InterestFigures;
-use ladder::zones::Matches;
 ghost use mathlib.Core.Path.{_≡_};
 ghost use Prim.Native.Nat.{_+_, _≤_};
 ghost use Rattle.ladder.specs.Table.{standardTable};
-ghost use Rattle.charges.specs.Report.{reportWith, refusedReport, reportOf, noInterest, noCommodity, interestLadderOf, commodityLadderOf};
+ghost use Rattle.charges.specs.Report.{reportWith, refusedReport, reportOf, interestLadderOf, commodityLadderOf};
 ghost use Rattle.charges.specs.Inner.Answers.{mostTotal, LadderRead};
 
 // The two parts of a class's charge.
@@ -24,7 +29,7 @@ pub struct Risk {
     pub general: u64,
 }
 
-// The report of a book, in mils; all zero but the refusal where it is refused.
+// The report of a book, in mils, and how many rows were taken for it; all zero but the refusal where it is refused.
 pub struct Report {
     pub refusal: Refusal,
     pub interest: Risk,
@@ -32,6 +37,7 @@ pub struct Report {
     pub exchange: u64,
     pub commodity: u64,
     pub total: u64,
+    pub taken: usize,
 }
 
 // The interest ladder of one currency, in weighted positions, and its charge in mils.
@@ -46,26 +52,41 @@ pub struct CommodityLadder {
     pub figures: CommodityFigures,
 }
 
-// The report of a book: its six charges and their total, or why it is refused.
+// The report of a book, in one pass over its rows: its six charges and their total, or why it is refused.
 pub fn charge(book: &[u8]) -> Report
     ensures { λ r. ⌜ r ≡ reportOf standardTable (now (book .entry)) ⌝ }
 {
-    let checked = book::read(book);
-    let refusal = checked.refusal;
-    let counts = checked.counts;
-    if refusal.number != 0 {
-        return refused_report(refusal);
+    let mut longs = [0u64; SLOTS];
+    let mut shorts = [0u64; SLOTS];
+    let mut specifics = [0u64; GROUP_SLOTS];
+    let mut rows = [0u16; GROUP_SLOTS];
+    let taken = pass::take_book(book, &mut longs, &mut shorts, &mut specifics, &mut rows);
+    let refused = taken.refusal;
+    if refused.number != 0 {
+        return refused_report(refused);
     }
-    let interest = classes::interest_risk(book::body(book, counts, 1));
-    let equity = classes::equity_risk(book::body(book, counts, 2));
-    let exchange = classes::exchange_charge(book::body(book, counts, 3));
-    let commodity = classes::commodity_charge(book::body(book, counts, 4));
-    charged_report(interest, equity, exchange, commodity)
+    let interest = Risk {
+        specific: tables::group_total(&specifics, 0),
+        general: general::interest_general(&longs, &shorts, &rows),
+    };
+    let equity = Risk {
+        specific: tables::group_total(&specifics, GROUPS),
+        general: general::equity_general(&longs, &shorts),
+    };
+    let exchange = general::exchange_general(&longs, &shorts);
+    let commodity = general::commodity_general(&longs, &shorts, &rows);
+    charged_report(interest, equity, exchange, commodity, taken.rows)
 }
 
-fn charged_report(interest: Risk, equity: Risk, exchange: u64, commodity: u64) -> Report
+fn charged_report(
+    interest: Risk,
+    equity: Risk,
+    exchange: u64,
+    commodity: u64,
+    taken: usize,
+) -> Report
     requires { ⌜ interest .specific + interest .general + equity .specific + equity .general + exchange + commodity ≤ mostTotal ⌝ }
-    ensures { λ r. ⌜ r ≡ reportWith interest equity exchange commodity ⌝ }
+    ensures { λ r. ⌜ r ≡ reportWith interest equity exchange commodity taken ⌝ }
 {
     let total = interest.specific
         + interest.general
@@ -80,6 +101,7 @@ fn charged_report(interest: Risk, equity: Risk, exchange: u64, commodity: u64) -
         exchange,
         commodity,
         total,
+        taken,
     }
 }
 
@@ -97,6 +119,7 @@ fn refused_report(refusal: Refusal) -> Report
         exchange: 0,
         commodity: 0,
         total: 0,
+        taken: 0,
     }
 }
 
@@ -110,12 +133,21 @@ pub fn interest_ladder(book: &[u8], group: usize) -> InterestLadder
     if refusal.number != 0 {
         return InterestLadder {
             refusal,
-            figures: no_interest(),
+            figures: ladders::no_interest(),
         };
     }
+    let mut longs = [0u64; BANDS];
+    let mut shorts = [0u64; BANDS];
+    ladders::tally(
+        book::body(book, counts, 1),
+        1,
+        group,
+        &mut longs,
+        &mut shorts,
+    );
     InterestLadder {
         refusal,
-        figures: classes::interest_figures(book::body(book, counts, 1), group),
+        figures: general::interest_figures(&longs, &shorts, 0),
     }
 }
 
@@ -129,12 +161,21 @@ pub fn commodity_ladder(book: &[u8], group: usize) -> CommodityLadder
     if refusal.number != 0 {
         return CommodityLadder {
             refusal,
-            figures: no_commodity(),
+            figures: ladders::no_commodity(),
         };
     }
+    let mut longs = [0u64; BANDS];
+    let mut shorts = [0u64; BANDS];
+    ladders::tally(
+        book::body(book, counts, 4),
+        4,
+        group,
+        &mut longs,
+        &mut shorts,
+    );
     CommodityLadder {
         refusal,
-        figures: classes::commodity_figures(book::body(book, counts, 4), group),
+        figures: general::commodity_figures(&longs, &shorts, 0),
     }
 }
 
@@ -146,32 +187,4 @@ fn ladder_checked(book: &[u8], group: usize) -> Checked
         return book::checked_with(book::refused(10, 0), book::no_counts());
     }
     book::read(book)
-}
-
-fn no_interest() -> InterestFigures
-    ensures { λ r. ⌜ r ≡ noInterest ⌝ }
-{
-    let matches = Matches {
-        gross: 0,
-        vertical: 0,
-        zone1: 0,
-        zone2: 0,
-        zone3: 0,
-        zones12: 0,
-        zones23: 0,
-        zones13: 0,
-        residual: 0,
-    };
-    InterestFigures { matches, charge: 0 }
-}
-
-fn no_commodity() -> CommodityFigures
-    ensures { λ r. ⌜ r ≡ noCommodity ⌝ }
-{
-    CommodityFigures {
-        matches: 0,
-        carried: 0,
-        residual: 0,
-        charge: 0,
-    }
 }

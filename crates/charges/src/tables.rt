@@ -1,76 +1,83 @@
-// The tables of sums, and parts of them as the ladders take them.
+// Parts of the tables of sums, as the charges take them.
 use crate::bands;
-use book::LAST_GROUP;
+use crate::slots::GROUP_SLOTS;
+use crate::slots::GROUPS;
 use ladder::BANDS;
 use ladder::COMMODITY_BANDS;
 ghost use mathlib.Core.Path.{_≡_};
 ghost use Prim.Native.Nat.{ℕ, _+_, _*_, _<_, _≤_};
-ghost use lib.ListN.{getD};
+ghost use lib.ListN.{length, getD};
+ghost use Rattle.sums.specs.Sums.{sumOf};
 ghost use Rattle.sums.specs.Inner.Tables.{Reads};
 ghost use Rattle.ladder.specs.Table.{standardTable, weightIn};
 ghost use Rattle.ladder.specs.Commodity.{commodityBandCount};
 ghost use Rattle.ladder.specs.Inner.Steps.{limit, bandCount};
-ghost use Rattle.charges.specs.Inner.Tables.{groupCount, tableGross, mostGross};
+ghost use Rattle.charges.specs.Charges.{eightPerCent, groups};
+ghost use Rattle.charges.specs.Inner.Slots.{groupCount, groupSlots};
+ghost use Rattle.charges.specs.Inner.Tables.{mostGross, UsedOf};
 
-// The groups of a class, 0 to the last.
-pub const GROUPS: usize = LAST_GROUP as usize + 1;
+// Some groups of a class, at the front of the list, and how many they are.
+pub struct Used {
+    pub list: [usize; GROUPS + 1],
+    pub many: usize,
+}
 
-// The slots of a table: for each group one for each band.
-pub const SLOTS: usize = GROUPS * BANDS;
-
-// The weighted sums of a currency's bands, on one side.
-pub fn weighted_bands(table: &[u64; SLOTS], group: usize) -> [u64; BANDS]
-    requires { ⌜ group < groupCount ⌝ }
-    requires { ⌜ ((k : ℕ) → k < bandCount → weightIn standardTable k * getD (now table) (bandCount * group + k) 0 ≤ limit) ⌝ }
-    ensures { λ r. ⌜ Reads bandCount (λ k. weightIn standardTable k * getD (now (table .entry)) (bandCount * group + k) 0) r ⌝ }
+// The weighted sums of a currency's bands, on one side, from a slot on.
+pub fn weighted_bands(table: &[u64], first: usize) -> [u64; BANDS]
+    requires { ⌜ first + bandCount ≤ length (now table) ⌝ }
+    requires { ⌜ ((k : ℕ) → k < bandCount → weightIn standardTable k * getD (now table) (first + k) 0 ≤ limit) ⌝ }
+    ensures { λ r. ⌜ Reads bandCount (λ k. weightIn standardTable k * getD (now (table .entry)) (first + k) 0) r ⌝ }
 {
     let weights = bands::WEIGHTS;
     let mut out = [0u64; BANDS];
     let mut k: usize = 0;
     while k < BANDS {
-        out[k] = weights[k] * table[BANDS * group + k];
+        out[k] = weights[k] * table[first + k];
         k += 1;
     }
     out
 }
 
-// The sums of a commodity's bands, on one side.
-pub fn commodity_bands(table: &[u64; SLOTS], group: usize) -> [u64; COMMODITY_BANDS]
-    requires { ⌜ group < groupCount ⌝ }
-    ensures { λ r. ⌜ Reads commodityBandCount (λ k. getD (now (table .entry)) (bandCount * group + k) 0) r ⌝ }
+// The sums of a commodity's bands, on one side, from a slot on.
+pub fn commodity_bands(table: &[u64], first: usize) -> [u64; COMMODITY_BANDS]
+    requires { ⌜ first + commodityBandCount ≤ length (now table) ⌝ }
+    ensures { λ r. ⌜ Reads commodityBandCount (λ k. getD (now (table .entry)) (first + k) 0) r ⌝ }
 {
     let mut out = [0u64; COMMODITY_BANDS];
     let mut k: usize = 0;
     while k < COMMODITY_BANDS {
-        out[k] = table[BANDS * group + k];
+        out[k] = table[first + k];
         k += 1;
     }
     out
 }
 
-// The sums of the groups of a class without bands, on one side.
-pub fn group_sums(table: &[u64; SLOTS]) -> [u64; GROUPS]
-    ensures { λ r. ⌜ Reads groupCount (λ group. getD (now (table .entry)) (bandCount * group) 0) r ⌝ }
+// The groups of a class that have rows, listed without a branch: a group is written after those before it, and counts where it has rows.
+pub fn used_groups(rows: &[u16; GROUP_SLOTS], first: usize) -> Used
+    requires { ⌜ first + groupCount ≤ groupSlots ⌝ }
+    ensures { λ r. ⌜ UsedOf (λ group. getD (now (rows .entry)) (first + group) 0) r ⌝ }
 {
-    let mut out = [0u64; GROUPS];
+    let mut list = [0usize; GROUPS + 1];
+    let mut many: usize = 0;
     let mut group: usize = 0;
     while group < GROUPS {
-        out[group] = table[BANDS * group];
+        list[many] = group;
+        many += (rows[first + group] != 0) as usize;
         group += 1;
     }
-    out
+    Used { list, many }
 }
 
-// What a group's bands hold on both sides.
-pub fn group_gross(longs: &[u64; SLOTS], shorts: &[u64; SLOTS], group: usize) -> u64
-    requires { ⌜ (group < groupCount) × (tableGross (now longs) (now shorts) group ≤ mostGross) ⌝ }
-    ensures { λ r. ⌜ r ≡ tableGross (now (longs .entry)) (now (shorts .entry)) group ⌝ }
+// What the groups of a class come to, from a slot on.
+pub fn group_total(table: &[u64; GROUP_SLOTS], first: usize) -> u64
+    requires { ⌜ (first + groupCount ≤ groupSlots) × (sumOf (λ group. getD (now table) (first + group) 0) groups ≤ eightPerCent * mostGross) ⌝ }
+    ensures { λ r. ⌜ r ≡ sumOf (λ group. getD (now (table .entry)) (first + group) 0) groups ⌝ }
 {
-    let mut gross: u64 = 0;
-    let mut k: usize = 0;
-    while k < BANDS {
-        gross += longs[BANDS * group + k] + shorts[BANDS * group + k];
-        k += 1;
+    let mut sum: u64 = 0;
+    let mut group: usize = 0;
+    while group < GROUPS {
+        sum += table[first + group];
+        group += 1;
     }
-    gross
+    sum
 }

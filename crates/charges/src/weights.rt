@@ -1,6 +1,8 @@
 // Specific weights, in basis points.
 use book::Row;
 ghost use mathlib.Core.Path.{_≡_};
+ghost use mathlib.Core.Bool.{cond};
+ghost use lib.Dec.{eqb};
 ghost use Rattle.charges.specs.Weights.{qualifyingWeight, interestWeight, equityWeight, specificWeight};
 ghost use Rattle.charges.specs.Charges.{specificOf};
 
@@ -18,17 +20,23 @@ fn qualifying_weight(days: u16) -> u64
     }
 }
 
-// Government, qualifying and other paper.
-fn interest_weight(row: Row) -> u64
-    ensures { λ r. ⌜ r ≡ interestWeight row ⌝ }
+// Paper that is not qualifying, by its kind: government and other.
+fn fixed_weight(kind: u8) -> u64
+    ensures { λ r. ⌜ r ≡ cond (eqb kind 3) 800 0 ⌝ }
 {
-    let kind = row.kind;
     match kind {
-        1 => 0,
-        2 => qualifying_weight(row.days),
         3 => 800,
         _ => 0,
     }
+}
+
+// Government, qualifying and other paper. Both weights are found before one is chosen: so no branch depends on the kind.
+fn interest_weight(row: Row) -> u64
+    ensures { λ r. ⌜ r ≡ interestWeight row ⌝ }
+{
+    let qualifying = qualifying_weight(row.days);
+    let fixed = fixed_weight(row.kind);
+    if row.kind == 2 { qualifying } else { fixed }
 }
 
 // Ordinary shares, liquid and well diversified portfolios, indices.

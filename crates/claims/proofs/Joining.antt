@@ -8,6 +8,7 @@ use lib.ListN.{length}
 use Rattle.sums.specs.Every.{none, also}
 use Rattle.sums.proofs.Spans.{in-span}
 use Rattle.book.specs.Rows.{rowsOf, decode}
+use Rattle.book.specs.Legs.{legsOf}
 use Rattle.book.specs.Refusals.{lastGroup, refused}
 use Rattle.book.specs.Accepted.{Accepted}
 use Rattle.book.specs.Parts.{accepts}
@@ -28,7 +29,7 @@ use Rattle.claims.proofs.Charging.{specific-joined, interest-joined, eq
 
 -- the report of an accepted book
 pub accepted-report : (table : Table) (s : List ℕ) → Accepted s
-    → reportOf table s ≡ reportWith (interestRisk table (classRows s 1)) (equityRisk (classRows s 2)) (exchangeGeneral (classRows s 3)) (commodityGeneral (classRows s 4))
+    → reportOf table s ≡ reportWith (interestRisk table (classRows s 1)) (equityRisk (classRows s 2)) (exchangeGeneral (classRows s 3)) (commodityGeneral (classRows s 4)) (length (legsOf s))
 unfolding reportOf accepts refused
 accepted-report table s a = simp (refused-with-none s a)
 

@@ -10,12 +10,13 @@ use lib.ListN.{length}
 use Rattle.sums.specs.Every.{Every, none, also}
 use Rattle.sums.proofs.Every.{every-implied, every-mapped, mapped-every, every-permuted}
 use Rattle.book.specs.declared.Row.{Row}
-use Rattle.book.specs.Counts.{classes, countsOf}
+use Rattle.book.specs.Counts.{classes, countsOf, rowCount}
 use Rattle.book.specs.Rows.{rowsOf, decode}
+use Rattle.book.specs.Legs.{legsOf}
 use Rattle.book.specs.Refusals.{rowRefusal}
 use Rattle.book.specs.Accepted.{Clean, Accepted}
 use Rattle.book.proofs.Placing.{of-four}
-use Rattle.book.proofs.Walking.{class-rows}
+use Rattle.book.proofs.Walking.{class-rows, legs-length}
 use Rattle.book.proofs.Passing.{passes-clean, clean-passes}
 use Rattle.book.proofs.Acceptance.{accepted, refused-with-none, class-clean, clean-legs}
 use Rattle.ladder.specs.Table.{Table}
@@ -75,6 +76,10 @@ module _ (c d : List ℕ) (of-c : Accepted c) (legs : ℕ → List Row) (of : Or
       ∙ of .same cost invariant class
       ∙ ap cost (sym (class-rows c class low high))
 
+  -- as many rows are taken
+  same-taken : length (legsOf d) ≡ length (legsOf c)
+  same-taken = legs-length d (still-accepted .sized) ∙ ap rowCount (of .counts) ∙ sym (legs-length c (of-c .sized))
+
   unchanged : (table : Table) → Unchanged table c d
   unchanged table =
       record {
@@ -86,6 +91,7 @@ module _ (c d : List ℕ) (of-c : Accepted c) (legs : ℕ → List Row) (of : Or
               same-cost equityRisk equity-risk-invariant 2 (omega arith) (omega arith),
               same-cost exchangeGeneral exchange-invariant 3 (omega arith) (omega arith),
               same-cost commodityGeneral commodity-invariant 4 (omega arith) (omega arith),
+              same-taken,
             ));
       }
 

@@ -53,13 +53,13 @@ specificEdges =
 -- each kind of equity in two markets, and all four classes at once
 unfoldable pub costFacts : List Worked
 costFacts =
-    costs zoneEdges 0 1418000 0 0 0 0 1418000
-    ∷ costs specificEdges 8171027500 193176000 0 0 0 0 8364203500
-    ∷ costs (bookOf (commodity 1 36000 1 0 ∷ [])) 0 0 0 0 0 150000 150000
-    ∷ costs (bookOf (commodity 1 0 1 0 ∷ [])) 0 0 0 0 0 186000 186000
-    ∷ costs (bookOf (equity 3 1 100 0 ∷ equity 3 3 0 40 ∷ [])) 0 0 8800000 4800000 0 0 13600000
-    ∷ costs (bookOf (equity 3 1 100 0 ∷ equity 0 2 0 10 ∷ [])) 0 0 8400000 8800000 0 0 17200000
-    ∷ costs (bookOf (leg 1 2 3 270 300 1 0 ∷ equity 1 2 3 0 ∷ currency 0 0 2 ∷ commodity 0 36000 1 0 ∷ [])) 80000 7000 120000 240000 160000 150000 757000
+    costs zoneEdges 0 1418000 0 0 0 0 1418000 8
+    ∷ costs specificEdges 8171027500 193176000 0 0 0 0 8364203500 6
+    ∷ costs (bookOf (commodity 1 36000 1 0 ∷ [])) 0 0 0 0 0 150000 150000 1
+    ∷ costs (bookOf (commodity 1 0 1 0 ∷ [])) 0 0 0 0 0 186000 186000 1
+    ∷ costs (bookOf (equity 3 1 100 0 ∷ equity 3 3 0 40 ∷ [])) 0 0 8800000 4800000 0 0 13600000 2
+    ∷ costs (bookOf (equity 3 1 100 0 ∷ equity 0 2 0 10 ∷ [])) 0 0 8400000 8800000 0 0 17200000 2
+    ∷ costs (bookOf (leg 1 2 3 270 300 1 0 ∷ equity 1 2 3 0 ∷ currency 0 0 2 ∷ commodity 0 36000 1 0 ∷ [])) 80000 7000 120000 240000 160000 150000 757000 4
     ∷ []
 
 -- all figures of both ladder calls, refused and not
@@ -102,7 +102,7 @@ refusalFacts =
     ∷ refuses (first 4 0 0) 5 0
     ∷ refuses (first 1 36001 0) 6 0
     ∷ refuses (first 1 36000 10001) 7 0
-    ∷ costs (first 3 0 10000) 80000 0 0 0 0 0 80000
+    ∷ costs (first 3 0 10000) 80000 0 0 0 0 0 80000 1
     ∷ []
 
 -- joining: A's fault, B's fault, one byte short, long enough (number, row, book, length)

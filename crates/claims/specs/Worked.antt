@@ -32,15 +32,15 @@ pub record Worked : Type 0 where
   pub given : List ℕ
   pub expected : List ℕ
 
--- a charged book: specific and general interest, specific and general equity, foreign exchange, commodities, and the total
-abbrev pub costs : List ℕ → (interest-specific interest-general equity-specific equity-general exchange commodity total : ℕ) → Worked
-costs book is ig es eg x c total =
-    record { given = reportEntries (reportOf standardTable book); expected = 0 ∷ 0 ∷ 0 ∷ is ∷ ig ∷ es ∷ eg ∷ x ∷ c ∷ total ∷ [] }
+-- a charged book: specific and general interest, specific and general equity, foreign exchange, commodities, the total, and the rows taken
+abbrev pub costs : List ℕ → (interest-specific interest-general equity-specific equity-general exchange commodity total taken : ℕ) → Worked
+costs book is ig es eg x c total taken =
+    record { given = reportEntries (reportOf standardTable book); expected = 0 ∷ 0 ∷ 0 ∷ is ∷ ig ∷ es ∷ eg ∷ x ∷ c ∷ total ∷ taken ∷ [] }
 
 -- a refused book: number and row, and no figure
 abbrev pub refuses : List ℕ → ℕ → ℕ → Worked
 refuses book number row =
-    record { given = reportEntries (reportOf standardTable book); expected = number ∷ row ∷ 0 ∷ replicate 7 0 }
+    record { given = reportEntries (reportOf standardTable book); expected = number ∷ row ∷ 0 ∷ replicate 8 0 }
 
 -- the band of some days at a coupon
 abbrev pub bandAt : (coupon days : ℕ) → ℕ
@@ -89,19 +89,19 @@ oneRow amount = bookOf (currency 5 amount 0 ∷ [])
 unfoldable pub worked : List Worked
 worked =
     -- E1
-    costs (replicate 8 0) 0 0 0 0 0 0 0
+    costs (replicate 8 0) 0 0 0 0 0 0 0 0
     -- E2
-    ∷ costs interestExample 213280000 4580112500 0 0 0 0 4793392500
+    ∷ costs interestExample 213280000 4580112500 0 0 0 0 4793392500 6
     -- E3
-    ∷ costs threeZones 0 735000 0 0 0 0 735000
+    ∷ costs threeZones 0 735000 0 0 0 0 735000 3
     -- E4: two books, and the two joined
-    ∷ costs nearZones 0 210000 0 0 0 0 210000
-    ∷ costs farZones 0 210000 0 0 0 0 210000
-    ∷ costs (joinedBook nearZones farZones (replicate 72 0)) 0 577500 0 0 0 0 577500
+    ∷ costs nearZones 0 210000 0 0 0 0 210000 2
+    ∷ costs farZones 0 210000 0 0 0 0 210000 2
+    ∷ costs (joinedBook nearZones farZones (replicate 72 0)) 0 577500 0 0 0 0 577500 4
     -- E5
-    ∷ costs commodityExample 0 0 0 0 0 79200000 79200000
+    ∷ costs commodityExample 0 0 0 0 0 79200000 79200000 4
     -- E6
-    ∷ costs currencyExample 0 0 0 0 26800000 0 26800000
+    ∷ costs currencyExample 0 0 0 0 26800000 0 26800000 6
     -- E7
     ∷ falls 700 300 4
     ∷ falls 700 299 5
@@ -111,7 +111,7 @@ worked =
     ∷ falls 7200 299 13
     ∷ falls 7201 299 14
     -- E9
-    ∷ costs (oneRow 1000000000) 0 0 0 0 80000000000000 0 80000000000000
+    ∷ costs (oneRow 1000000000) 0 0 0 0 80000000000000 0 80000000000000 1
     ∷ refuses (oneRow 1000000001) 9 0
     -- E10
     ∷ refuses (twoBytes 4001 ++ replicate 6 0) 2 0

@@ -18,7 +18,7 @@ use Rattle.ladder.proofs.Carrying.{commodity-within}
 use Rattle.ladder.proofs.Books.{weighted, interestCharge, commodityCharge, amountOf, grouped, ladderOf-weighted}
 
 -- each row is counted at one index at most
-positionsBy-within : {Row : Type 0} (index long short : Row → ℕ) (n : ℕ) (rows : List Row)
+pub positionsBy-within : {Row : Type 0} (index long short : Row → ℕ) (n : ℕ) (rows : List Row)
     → gross (total (positionsBy index long short rows) (span 0 n)) ≤ sumOf long rows + sumOf short rows
 positionsBy-within index long short n rows =
     let of : (_ → ℕ) → ℕ → ℕ = λ amount k. sumAt index amount k rows in

@@ -18,9 +18,9 @@ reportFigures report =
     report .equity .specific ∷ report .equity .general ∷
     report .exchange ∷ report .commodity ∷ report .total ∷ []
 
--- the refusal, and then the figures
+-- the refusal, the figures, and the rows taken (P4)
 unfoldable pub reportEntries : Report → List ℕ
-reportEntries report = refusalEntries (report .refusal) ++ reportFigures report
+reportEntries report = refusalEntries (report .refusal) ++ (reportFigures report ++ (report .taken ∷ []))
 
 -- the refusal, gross, the match sums, the residual, the charge (document 01, Interest: bands and zones)
 unfoldable pub interestEntries : InterestLadder → List ℕ

@@ -22,7 +22,7 @@ pub extern "C" fn market_risk_check(book: &[u8], out: &mut [u64; 3])
 
 // The report of a book.
 #[no_mangle]
-pub extern "C" fn market_risk_charge(book: &[u8], out: &mut [u64; 10])
+pub extern "C" fn market_risk_charge(book: &[u8], out: &mut [u64; 11])
     ensures { λ r. ⌜ now (out .exit) ≡ reportEntries (reportOf standardTable (now (book .entry))) ⌝ }
 {
     let report = charges::charge(book);
@@ -37,6 +37,7 @@ pub extern "C" fn market_risk_charge(book: &[u8], out: &mut [u64; 10])
         report.exchange,
         report.commodity,
         report.total,
+        report.taken as u64,
     ];
 }
 

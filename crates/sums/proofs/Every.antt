@@ -69,3 +69,7 @@ module _ {A : Type 0} (f : A → ℕ) where
 
   pub every-permuted : {l m : List A} → Perm l m → Every (λ a. f a ≡ 0) l → Every (λ a. f a ≡ 0) m
   every-permuted {l} {m} p every = sum-every m (sym (sumOf-permuted f p) ∙ every-sum every)
+
+-- a sum is 0 where another is, if each element's part of it is
+pub none-where : {A : Type 0} (f g : A → ℕ) → ((a : A) → f a ≡ 0 → g a ≡ 0) → (l : List A) → sumOf f l ≡ 0 → sumOf g l ≡ 0
+none-where f g implied l e = every-sum g (every-implied implied (sum-every f l e))

@@ -4,14 +4,15 @@ use Prim.Native.Nat.{ℕ, zero, suc, _+_, _-_, _*_, _≤_, _<_}
 use mathlib.Core.Path.{_≡_, refl, sym, ap, _∙_}
 use mathlib.Core.Bool.{cond}
 use mathlib.Core.List.{List, [], _∷_, _++_, List·Memᴰ, List·Memᴰ·head, List·Memᴰ·tail}
-use native.Mathlib.Nat.{zero-add, add-zero, add-suc, suc-add, mul-zero, mul-le-mul-left}
+use native.Mathlib.Nat.{zero-add, add-zero, add-suc, suc-add}
 use native.Mathlib.Decide.{ℕ-discrete}
 use native.Mathlib.Numerals.{add-one, lt-of-le-of-ne}
 use native.Mathlib.Omega.{arith}
 use lib.Dec.{eqb, eqb→eq, eqb-refl}
 use Rattle.sums.specs.Sums.{sumOf, sumAt, span}
+use Rattle.sums.specs.Every.{Every, none, also}
 use Rattle.sums.proofs.Cases.{counted-where, counted-elsewhere, counted≤}
-use Rattle.sums.proofs.Sums.{sumOf-append, sumOf-plus, sumOf-zero, sumOf-rate}
+use Rattle.sums.proofs.Sums.{sumOf-append, sumOf-plus, sumOf-zero}
 
 -- ---- the numbers of a span
 pub span-last : (start many : ℕ) → span start (suc many) ≡ span start many ++ ((start + many) ∷ [])
@@ -72,6 +73,18 @@ module _ {A : Type 0} (index amount : A → ℕ) where
         slots-within n list,
       )
 
+  -- and at exactly one where each index is in the span
+  pub slots-all : (n : ℕ) {list : List A} → Every (λ a. index a < n) list → sumOf (λ k. sumAt index amount k list) (span 0 n) ≡ sumOf amount list
+  unfolding sumOf
+  slots-all n none = sumOf-zero (span 0 n)
+  slots-all n (also {a} {rest} below later) =
+      omega (
+        arith,
+        sumOf-plus (slot (index a) (amount a)) (λ k. sumAt index amount k rest) (span 0 n),
+        slot-within (index a) (amount a) 0 n (omega arith) (omega arith),
+        slots-all n later,
+      )
+
 -- ---- sums from 0 on, one number more
 sum-none : (f : ℕ → ℕ) → sumOf f (span 0 0) ≡ 0
 unfolding sumOf span
@@ -125,14 +138,3 @@ pub record Rated (cost size : ℕ → ℕ) (rate bound n : ℕ) : Type 0 where
 module _ (cost size : ℕ → ℕ) (rate bound n : ℕ) (rated : Rated cost size rate bound n) where
   pub rated-size : (g : ℕ) → g < n → size g ≤ bound
   rated-size g h = omega (arith, sum-room size g n h, rated .whole)
-
-  -- there is room for the next cost
-  pub rated-room : (sum g : ℕ) → Summed cost n sum g → g < n → sum + cost g ≤ rate * bound
-  rated-room sum g before h =
-      omega (arith, before .is-sum, sum-room cost g n h, sumOf-rate rate cost size (span 0 n) (rated .each), mul-le-mul-left rate (rated .whole))
-
-  -- what has no size costs nothing, and may be passed over
-  pub rated-over : (sum g : ℕ) → Summed cost n sum g → g < n → size g ≡ 0 → Summed cost n sum (g + 1)
-  rated-over sum g before h none =
-      let nothing : cost g ≡ 0 = omega (arith, rw none at (rated .each g), mul-zero rate) in
-      record { reached = omega arith; is-sum = omega (arith, before .is-sum, sum-next cost g) }

@@ -4,9 +4,10 @@ use Prim.Native.Nat.{ℕ, _+_, _≤_, _<_}
 use mathlib.Core.Path.{_≡_, refl, sym, _∙_}
 use mathlib.Core.List.{List, [], _∷_, _++_, foldl-append}
 use native.Mathlib.Decide.{ℕ-discrete}
+use native.Mathlib.Nat.{add-zero}
 use native.Mathlib.Omega.{arith}
 use lib.ListN.{length, getD, replicate, length-set, length-replicate, getD-replicate}
-use lib.Seq.{getD-set-same, getD-set-other, lt-length-set}
+use lib.Seq.{set-getD, getD-set-same, getD-set-other, lt-length-set}
 use Rattle.sums.specs.Sums.{sumOf, sumAt}
 use Rattle.sums.specs.Inner.Tables.{placed, tally}
 use Rattle.sums.proofs.Sums.{sumOf-append, sumAt≤}
@@ -25,6 +26,10 @@ module _ {A : Type 0} (index amount : A → ℕ) where
       rw (← own) (getD-set-same table (index row) _ 0 here ∙ omega (arith, slot-own (index row) (amount row) (index row) refl))
   placed-at table row k h (no other) =
       getD-set-other table (index row) k _ 0 (λ e. other (sym e)) ∙ omega (arith, slot-other (index row) (amount row) k other)
+
+  -- a row without an amount leaves the table as it is
+  pub placed-none : (table : List ℕ) (row : A) → amount row ≡ 0 → placed index amount table row ≡ table
+  placed-none table row none = rw (none, add-zero (getD table (index row) 0)) (set-getD table (index row) 0)
 
   pub tally-at : (table : List ℕ) (rows : List A) (k : ℕ) → k < length table
       → getD (tally index amount table rows) k 0 ≡ getD table k 0 + sumAt index amount k rows

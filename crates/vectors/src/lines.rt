@@ -34,6 +34,7 @@ pub fn charge(book: &[u8]) {
     figure(report.exchange);
     figure(report.commodity);
     figure(report.total);
+    figure(report.taken as u64);
     end();
 }
 

@@ -21,9 +21,12 @@
         take(&nets, &totals, row);                                                           \
     }
 
-/* Number, row, book; the six charges; the total. */
+/* Number, row, book; the six charges; the total; the rows taken, which are those before the
+ * place in the file that the pass has come to. */
 void expert_charge(const uint8_t *book, size_t length, uint64_t *out) {
+    /* Ten and one: gcc clears eleven at once by rep stos, which takes longer. */
     memset(out, 0, 10 * sizeof *out);
+    out[10] = 0;
     if (length < 8) {
         out[0] = 1;
         return;
@@ -43,5 +46,6 @@ void expert_charge(const uint8_t *book, size_t length, uint64_t *out) {
     EACH(1, take_equity)
     EACH(2, take_exchange)
     EACH(3, take_commodity)
+    out[10] = (row - first) / ROW;
     charges(&nets, &totals, out);
 }

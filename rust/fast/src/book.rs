@@ -54,27 +54,30 @@ impl<'a> Book<'a> {
         }
     }
 
-    /// Checks the rows of one class and hands each to `take`: refusals 4 to 9.
+    /// Checks the rows of one class and hands each to `take`: refusals 4 to 9. Gives how many
+    /// were taken: the place that the pass has come to counts them.
     #[inline(always)]
-    pub fn each(&self, class: usize, mut take: impl FnMut(Row)) -> Result<(), Bad> {
+    pub fn each(&self, class: usize, mut take: impl FnMut(Row)) -> Result<usize, Bad> {
         let limits = &LIMITS[class];
-        for (at, bytes) in self.bodies[class].chunks_exact(16).enumerate() {
+        let mut rows = self.bodies[class].chunks_exact(16);
+        let count = rows.len();
+        while let Some(bytes) = rows.next() {
             let row = Row::decode(bytes.try_into().expect("chunks of 16 bytes"));
             if !row.clean(limits) {
                 let first: usize = self.counts[..class].iter().sum();
                 return Err(Bad {
                     number: row.fault(limits),
-                    row: first + at,
+                    row: first + count - rows.len() - 1,
                 });
             }
             take(row);
         }
-        Ok(())
+        Ok(count - rows.len())
     }
 
     /// Checks every row.
     #[inline(always)]
     pub fn check(&self) -> Result<(), Bad> {
-        (0..4).try_for_each(|class| self.each(class, |_| ()))
+        (0..4).try_for_each(|class| self.each(class, |_| ()).map(drop))
     }
 }

@@ -4,9 +4,9 @@ extern "C" {
     fn expert_charge(book: *const u8, length: usize, out: *mut u64);
 }
 
-/// Number, row, book; the six charges; the total.
-pub fn charge(bytes: &[u8], out: &mut [u64; 10]) {
+/// Number, row, book; the six charges; the total; the rows taken.
+pub fn charge(bytes: &[u8], out: &mut [u64; 11]) {
     // SAFETY: the pointers come from references with these lengths; the code reads the
-    // book's bytes, writes ten entries and keeps neither pointer.
+    // book's bytes, writes eleven entries and keeps neither pointer.
     unsafe { expert_charge(bytes.as_ptr(), bytes.len(), out.as_mut_ptr()) }
 }

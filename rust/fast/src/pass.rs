@@ -56,48 +56,50 @@ impl Sums {
         commodities: 0,
     };
 
-    /// Takes a book in, up to its first bad row. The sums are large: they are not returned.
+    /// Takes a book in, up to its first bad row, and gives how many rows it took. The sums
+    /// are large: they are not returned.
     #[inline(always)]
-    pub fn take(&mut self, book: &Book) -> Result<(), Bad> {
-        self.take_interest(book)?;
-        self.take_equity(book)?;
-        book.each(2, |row| self.exchange[row.group()] += row.net())?;
-        self.take_commodity(book)
+    pub fn take(&mut self, book: &Book) -> Result<usize, Bad> {
+        let interest = self.take_interest(book)?;
+        let equity = self.take_equity(book)?;
+        let exchange = book.each(2, |row| self.exchange[row.group()] += row.net())?;
+        let commodity = self.take_commodity(book)?;
+        Ok(interest + equity + exchange + commodity)
     }
 
     // Sums over all groups are kept in local variables, so that they stay in registers.
 
     #[inline(always)]
-    fn take_interest(&mut self, book: &Book) -> Result<(), Bad> {
+    fn take_interest(&mut self, book: &Book) -> Result<usize, Bad> {
         let (mut specific, mut used) = (0, 0);
-        book.each(0, |row| {
+        let taken = book.each(0, |row| {
             let place = add_interest(&mut self.interest[row.group()], row);
             specific += row.amount() * SPECIFIC[(4 * row.kind() + place) & 15];
             used |= 1 << row.group();
         })?;
         (self.interest_specific, self.currencies) = (specific, used);
-        Ok(())
+        Ok(taken)
     }
 
     #[inline(always)]
-    fn take_equity(&mut self, book: &Book) -> Result<(), Bad> {
+    fn take_equity(&mut self, book: &Book) -> Result<usize, Bad> {
         let mut specific = 0;
-        book.each(1, |row| {
+        let taken = book.each(1, |row| {
             self.equity[row.group()] += row.net();
             specific += row.amount() * EQUITY[row.kind()];
         })?;
         self.equity_specific = specific;
-        Ok(())
+        Ok(taken)
     }
 
     #[inline(always)]
-    fn take_commodity(&mut self, book: &Book) -> Result<(), Bad> {
+    fn take_commodity(&mut self, book: &Book) -> Result<usize, Bad> {
         let mut used = 0;
-        book.each(3, |row| {
+        let taken = book.each(3, |row| {
             add_commodity(&mut self.commodity[row.group()], row);
             used |= 1 << row.group();
         })?;
         self.commodities = used;
-        Ok(())
+        Ok(taken)
     }
 }

@@ -68,6 +68,37 @@ fn changed(class: usize, place: usize, row: Row) -> Vec<u8> {
     book.encode().unwrap()
 }
 
+/// A book of so many rows of each class, with one that is bad where it is asked for.
+fn mixed(counts: [usize; 4], bad: Option<usize>) -> Vec<u8> {
+    let mut book = Book::default();
+    for (class, count) in counts.iter().enumerate() {
+        book.classes[class] = vec![plain(class); *count];
+    }
+    let mut rows = book.classes.iter_mut().flatten();
+    if let Some(row) = bad.and_then(|at| rows.nth(at)) {
+        row.group = 32;
+    }
+    book.encode().unwrap()
+}
+
+/// In blocks of four and past them, in every class: all rows are taken, and none where one
+/// of them is bad.
+#[test]
+fn rows_taken_in_every_mix_of_counts() {
+    let few = [0, 1, 4, 6];
+    for mix in 0..256 {
+        let counts = [0, 2, 4, 6].map(|place| few[mix >> place & 3]);
+        let rows: usize = counts.iter().sum();
+        let taken = |bad| second::charge(&mixed(counts, bad)).taken;
+        compare(&mixed(counts, None), 3);
+        assert_eq!(taken(None), rows as u64);
+        for bad in 0..rows {
+            compare(&mixed(counts, Some(bad)), 3);
+            assert_eq!(taken(Some(bad)), 0);
+        }
+    }
+}
+
 #[test]
 fn every_value_of_each_field_in_each_class() {
     let amounts = [0, 1, 1_000_000_000, 1_000_000_001, 1 << 31, u32::MAX];

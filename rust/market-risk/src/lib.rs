@@ -12,6 +12,7 @@
 //! assert_eq!(report.equity_specific, 8_800_000);
 //! assert_eq!(report.equity_general, 4_800_000);
 //! assert_eq!(report.total, 13_600_000);
+//! assert_eq!(report.taken, 2);
 //! # Ok::<(), market_risk::Refusal>(())
 //! ```
 //!
@@ -23,7 +24,7 @@ mod refusal;
 
 pub use refusal::Refusal;
 
-/// The six charges of a book and their total, in mils.
+/// The six charges of a book and their total, in mils, and how many rows were taken.
 #[derive(Clone, Copy, Debug, Default, PartialEq, Eq)]
 pub struct Report {
     pub interest_specific: u64,
@@ -33,6 +34,8 @@ pub struct Report {
     pub exchange: u64,
     pub commodity: u64,
     pub total: u64,
+    /// How many rows were taken from the file: as many as the book has.
+    pub taken: u64,
 }
 
 /// The interest ladder of one currency. All but the charge are weighted positions:
@@ -87,7 +90,7 @@ pub fn check(book: &[u8]) -> Result<(), Refusal> {
 /// # Ok::<(), market_risk::Refusal>(())
 /// ```
 pub fn charge(book: &[u8]) -> Result<Report, Refusal> {
-    let mut out = [0; 10];
+    let mut out = [0; 11];
     raw::charge(book, &mut out);
     Refusal::of(&out)?;
     Ok(Report {
@@ -98,6 +101,7 @@ pub fn charge(book: &[u8]) -> Result<Report, Refusal> {
         exchange: out[7],
         commodity: out[8],
         total: out[9],
+        taken: out[10],
     })
 }
 

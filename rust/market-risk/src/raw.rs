@@ -39,8 +39,8 @@ pub fn check(book: &[u8], out: &mut [u64; 3]) {
     unsafe { c::market_risk_check(book.as_ptr(), book.len(), out.as_mut_ptr()) }
 }
 
-/// Number, row, book; the six charges; the total.
-pub fn charge(book: &[u8], out: &mut [u64; 10]) {
+/// Number, row, book; the six charges; the total; the rows taken.
+pub fn charge(book: &[u8], out: &mut [u64; 11]) {
     // SAFETY: as in `check`.
     unsafe { c::market_risk_charge(book.as_ptr(), book.len(), out.as_mut_ptr()) }
 }

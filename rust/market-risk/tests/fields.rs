@@ -82,15 +82,17 @@ fn hold(books: &[Read]) {
 #[test]
 fn report() {
     // Other, 270 days, 1: 8% is 80,000 mils, 0.70% is 7,000. Diversified, 3: 4% is 120,000,
-    // 8% is 240,000. Gold, 2: 8% is 160,000. Commodity past the last step, 1: 15%.
+    // 8% is 240,000. Gold, 2: 8% is 160,000. Commodity past the last step, 1: 15%. Four rows.
     let book = book([
         &[row(2, 3, 270, 300, 1)],
         &[row(1, 2, 0, 0, 3)],
         &[row(0, 0, 0, 0, -2)],
         &[row(0, 0, 36_000, 0, 1)],
     ]);
-    let by_hand = [80_000, 7_000, 120_000, 240_000, 160_000, 150_000, 757_000];
-    let mut entries = [0; 10];
+    let by_hand = [
+        80_000, 7_000, 120_000, 240_000, 160_000, 150_000, 757_000, 4,
+    ];
+    let mut entries = [0; 11];
     raw::charge(&book, &mut entries);
     assert_eq!(entries[3..], by_hand);
     let report = charge(&book).unwrap();
@@ -102,6 +104,7 @@ fn report() {
         report.exchange,
         report.commodity,
         report.total,
+        report.taken,
     ];
     hold(&[(entries.to_vec(), fields)]);
 }

@@ -16,8 +16,8 @@ impl Refusal {
 }
 
 impl Report {
-    /// The refusal, the six charges and the total.
-    pub fn entries(&self) -> [u64; 10] {
+    /// The refusal, the six charges, the total and the rows taken.
+    pub fn entries(&self) -> [u64; 11] {
         let figures = [
             self.interest_specific,
             self.interest_general,
@@ -26,6 +26,7 @@ impl Report {
             self.exchange,
             self.commodity,
             self.total,
+            self.taken,
         ];
         laid_out(self.refusal, &figures)
     }

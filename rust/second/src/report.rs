@@ -1,10 +1,11 @@
 //! The report of a book: six charges and their total, in mils (Introduction I, 9 and
-//! 13 (b)).
+//! 13 (b)), and how many rows were taken for them (document 02, P4).
 
 use crate::book::{read, Refusal, Row};
 use crate::{commodity, figure, interest, open};
 
-/// The refusal, the six charges and the total; all figures are zero on a refusal.
+/// The refusal, the six charges, the total and the rows taken; all figures are zero on a
+/// refusal.
 #[derive(Clone, Copy, Debug, Default, PartialEq, Eq)]
 pub struct Report {
     pub refusal: Refusal,
@@ -15,6 +16,8 @@ pub struct Report {
     pub exchange: u64,
     pub commodity: u64,
     pub total: u64,
+    /// How many rows of the file the figures were made from: all, or none on a refusal.
+    pub taken: u64,
 }
 
 /// The report of the rows of an accepted book.
@@ -37,6 +40,7 @@ fn report(rows: &[Row]) -> Report {
         exchange: charges[4],
         commodity: charges[5],
         total: charges.iter().sum(),
+        taken: rows.len() as u64,
     }
 }
 

@@ -11,6 +11,7 @@ fn equity_book() {
         equity_specific: 8_800_000,
         equity_general: 4_800_000,
         total: 13_600_000,
+        taken: 2,
         ..Report::default()
     };
     assert_eq!(report, expected);
@@ -34,7 +35,7 @@ fn e2_the_paper_s_interest_example() {
     let report = charge(&book);
     assert_eq!(report.interest_general, 4_580_112_500);
     assert_eq!(report.interest_specific, 213_280_000);
-    assert_eq!(report.total, 4_793_392_500);
+    assert_eq!((report.total, report.taken), (4_793_392_500, 6));
 }
 
 #[test]

@@ -151,11 +151,13 @@ mod tests {
         );
     }
 
+    /// The rows taken are not printed.
     #[test]
     fn figures_are_in_currency_units() {
         let report = Report {
             interest_general: 4_580_112_500,
             total: 4_580_112_500,
+            taken: 3_999,
             ..Report::default()
         };
         let text = figures(&report);
@@ -164,5 +166,6 @@ mod tests {
             "{text}"
         );
         assert_eq!(text.lines().count(), 7);
+        assert!(!text.contains("3,999"), "{text}");
     }
 }

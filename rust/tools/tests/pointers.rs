@@ -33,7 +33,7 @@ fn null_with_length_0_is_a_file_of_no_bytes() {
         // SAFETY, here and below: the header allows null with length 0, and every result
         // has room for its entries.
         (3, &|out| unsafe { market_risk_check(null(), 0, out) }),
-        (10, &|out| unsafe { market_risk_charge(null(), 0, out) }),
+        (11, &|out| unsafe { market_risk_charge(null(), 0, out) }),
         (13, &|out| unsafe {
             market_risk_interest_ladder(null(), 0, 7, out)
         }),

@@ -1,5 +1,6 @@
-//! The command over a library that has calls taken out, which it must notice. It is built
-//! a second time, over the proved archive with tests/stand_in/stand_in.c before its calls.
+//! The command over a library that has calls taken out or miscounts rows, which it must
+//! notice. It is built a second time, over the proved archive with
+//! tests/stand_in/stand_in.c before its calls.
 
 mod common;
 
@@ -47,7 +48,10 @@ fn archive() -> String {
     build(rename.args([&format!("{proved}/libmarket_risk.a"), &fresh]));
     let source = format!("{HERE}/tests/stand_in/stand_in.c");
     let include = format!("-I{HERE}/../../include");
-    build(Command::new("cc").args(["-c", "-O1", &include, "-o", &object, &source]));
+    // Compilers warn where the header's results have other lengths than the stand-in's.
+    let strict = ["-c", "-O1", "-Wall", "-Wextra", "-Werror"];
+    let files = [&include, "-o", &object, &source];
+    build(Command::new("cc").args(strict).args(files));
     build(Command::new("ar").args(["rD", &fresh, &object]));
     let archive = format!("{folder}/libmarket_risk.a");
     // An archive that is as it was keeps its date, and nothing is built again.
@@ -73,17 +77,17 @@ fn tool() -> &'static str {
     })
 }
 
-/// Runs the command with a call taken out, or "none".
-fn run(without: &str, words: &[&str]) -> Output {
+/// Runs the command with a call taken out or another fault, or "none".
+fn run(fault: &str, words: &[&str]) -> Output {
     let mut command = Command::new(tool());
-    command.env("STAND_IN", without).args(words);
+    command.env("STAND_IN", fault).args(words);
     command.output().unwrap()
 }
 
-/// How the command fails with a call taken out, which it must, with exit status 1.
-fn fails(without: &str, words: &[&str]) -> String {
-    let output = run(without, words);
-    assert_eq!(output.status.code(), Some(1), "without {without}");
+/// How the command fails with a fault, which it must, with exit status 1.
+fn fails(fault: &str, words: &[&str]) -> String {
+    let output = run(fault, words);
+    assert_eq!(output.status.code(), Some(1), "{fault}");
     String::from_utf8(output.stderr).unwrap()
 }
 
@@ -104,6 +108,29 @@ fn compare_fails_without_each_call() {
         assert!(error.contains(&told), "without {call}: {error}");
     }
     assert!(fails("all", &words).contains(": the proved library gives [0, 0, 0"));
+}
+
+/// Catches a comparison that leaves out the rows taken, or looks at them in accepted books
+/// alone: the other entries of these reports are the proved library's own.
+#[test]
+fn compare_fails_with_each_wrong_count_of_rows() {
+    let words = ["compare", "--seed", "1", "--count", "300"];
+    let ends = [
+        ("none_taken", ", 0], the second calculation [0, ", ", 1]"),
+        (
+            "one_more_taken",
+            ", 1], the second calculation [0, ",
+            ", 0]",
+        ),
+        ("taken_kept", ", 1], the second calculation [", ", 0]"),
+    ];
+    for (fault, wrong, right) in ends {
+        let error = fails(fault, &words);
+        let mut lines = error.lines();
+        let told = lines.find(|line| line.starts_with("charge: ")).unwrap();
+        assert!(told.contains(wrong), "{fault}: {told}");
+        assert!(told.ends_with(right), "{fault}: {told}");
+    }
 }
 
 /// Catches a ladder that is drawn without a look at the library's figures.

@@ -1,109 +1,116 @@
--- `charges::charge` meets its contract: refused, or the six charges of the four parts of the book.
-use mathlib.Core.Path.{_≡_, sym, ap, _∙_}
+-- `charges::charge` meets its contract: refused, or the six charges of the sums that one pass took.
+use mathlib.Core.Path.{refl, sym, _∙_}
 use mathlib.Core.List.{List}
-use Prim.Native.Nat.{ℕ, _≤_}
+use Prim.Native.Nat.{ℕ}
 use native.Mathlib.Omega.{arith}
 use borrow.Author.Needs.{needs}
-use borrow.Author.Tests.{eq-eqb, ne-eqb}
-use Rattle.book.specs.declared.Row.{Row}
-use Rattle.book.specs.declared.Refusal.{Refusal}
-use Rattle.book.specs.Counts.{bodyBy}
-use Rattle.book.specs.Refusals.{refusalOf}
-use Rattle.book.specs.Parts.{accepts, partOf}
-use Rattle.book.specs.Inner.Reading.{partRows}
+use Rattle.book.specs.Accepted.{Accepted}
+use Rattle.book.proofs.Acceptance.{accepted}
 use Rattle.ladder.specs.Table.{standardTable}
 use Rattle.ladder.proofs.AddsUp.{standard-accepted}
-use Rattle.charges.specs.Charges.{interestRisk, equityRisk, exchangeGeneral, commodityGeneral}
-use Rattle.charges.specs.Report.{refusedReport, reportOf, classRows}
-use Rattle.charges.specs.Inner.Tables.{CleanPart}
-use Rattle.charges.proofs.Reporting.{read-refusal, read-part, total-fits}
+use Rattle.charges.proofs.Costs.{Costs, costs}
+use Rattle.charges.proofs.Reporting.{Six, taken-number, sums-all, report-refused, six-fit, report-charged}
 use Rattle.charges.proofs.charge.Statement.{statement}
 use Rattle.charges.proofs.charge.Tie as tie
 
--- the refusal that was read is the book's
-refusal-is : (at : tie.After-read) → at .read .result .refusal ≡ refusalOf (at .before .before .args .book .now)
-refusal-is at = read-refusal _ _ (at .read .ensures)
+take-book-requires : tie.Need-take-book-requires
+take-book-requires c κs = record { no-longs = refl; no-shorts = refl; no-specifics = refl; no-rows = refl }
 
-module _ (at : tie.After-read) (class : ℕ) (low : 1 ≤ class) (high : class ≤ 4) where
+-- the book passed, and what its tables cost
+module _ (c : tie.Else1) where
   abbrev s : List ℕ
-  s = at .before .before .args .book .now
+  s = c .before .before .before .before .before .before .before .before .before .args .book .now
 
-  -- the bodies by the counts that were read are the parts
-  part : {body : List ℕ} → body ≡ bodyBy (at .read .result .counts) s class → body ≡ partOf s class
-  part is = is ∙ at .read .ensures .parts class
+  of : Accepted s
+  of = accepted s (sym (taken-number standardTable s _ (c .before .before .before .take-book .ensures .is-taken)) ∙ c .if1 .left)
 
-  clean : {body : List ℕ} → body ≡ bodyBy (at .read .result .counts) s class → CleanPart class body
-  clean is = rw (part is) (read-part s _ (at .read .ensures) class low high)
-
-  -- what is charged on a body is charged on the part, and of an accepted book on the rows of the class
-  cost : {A : Type 0} (of : List Row → A) {r : A} {body : List ℕ} → r ≡ of (partRows body) → body ≡ bodyBy (at .read .result .counts) s class → r ≡ of (partRows (partOf s class))
-  cost of r≡ body≡ = r≡ ∙ ap (λ (bytes : List ℕ). of (partRows bytes)) (part body≡)
-
-  class-cost : {A : Type 0} (of : List Row → A) {r : A} {body : List ℕ} → r ≡ of (partRows body) → body ≡ bodyBy (at .read .result .counts) s class
-      → at .read .result .refusal .number ≡ 0 → r ≡ of (classRows s class)
-  class-cost of r≡ body≡ good = cost of r≡ body≡ ∙ ap of (at .read .ensures .rows good class low high)
+  cost : Costs standardTable s (c .before .before .before .take-book .last .1 .0) (c .before .before .before .take-book .last .1 .1 .0)
+      (c .before .before .before .take-book .last .1 .1 .1 .0) (c .before .before .before .take-book .last .1 .1 .1 .1 .0)
+  cost =
+      let pass = c .before .before .before .take-book .ensures in
+      costs standardTable s _ _ _ _ of (sums-all standardTable s _ (pass .is-taken) (c .if1 .left) (pass .sums))
 
 returns : tie.Need-returns
-unfolding reportOf accepts
-returns c =
-    let at = c .before .before .before .before .before in
-    let refused = ne-eqb _ _ (λ e. c .before .if1 .taken (ap (λ (r : Refusal). r .number) (refusal-is at) ∙ e)) in
-    simp refused (c .refused-report .ensures ∙ ap refusedReport (refusal-is at))
+returns c = report-refused standardTable _ _ (c .before .before .before .before .take-book .ensures .is-taken) _ (c .refused-report .ensures) (c .before .if1 .taken)
 
-interest-risk-requires : tie.Need-interest-risk-requires
-interest-risk-requires c κs = clean (c .before .before .before .before .before) 1 (omega arith) (omega arith) (c .body .ensures)
+group-total-requires : tie.Need-group-total-requires
+group-total-requires c κs = (omega arith, cost (c .before) .interest-specific-fits)
 
-equity-risk-requires : tie.Need-equity-risk-requires
-equity-risk-requires c κs = clean (c .before .before .before .before .before .before .before) 2 (omega arith) (omega arith) (c .body2 .ensures)
+interest-general-requires : tie.Need-interest-general-requires
+interest-general-requires c κs =
+    let p = cost (c .before .before .before .before .before) in
+    ((p .longs-sized, p .shorts-sized), (p .interest-fits, p .currency-unused))
 
-exchange-charge-requires : tie.Need-exchange-charge-requires
-exchange-charge-requires c κs = clean (c .before .before .before .before .before .before .before .before .before) 3 (omega arith) (omega arith) (c .body3 .ensures)
+group-total-requires-2 : tie.Need-group-total-requires-2
+group-total-requires-2 c κs = (omega arith, cost (c .before .before .before .before .before .before .before) .equity-specific-fits)
 
-commodity-charge-requires : tie.Need-commodity-charge-requires
-commodity-charge-requires c κs = clean (c .before .before .before .before .before .before .before .before .before .before .before) 4 (omega arith) (omega arith) (c .body4 .ensures)
+equity-general-requires : tie.Need-equity-general-requires
+equity-general-requires c κs = let p = cost (c .before .before .before .before .before .before .before .before .before .before) in (p .longs-sized, p .shorts-sized, p .equity-fits)
+
+exchange-general-requires : tie.Need-exchange-general-requires
+exchange-general-requires c κs =
+    let p = cost (c .before .before .before .before .before .before .before .before .before .before .before .before .before) in
+    (p .longs-sized, p .shorts-sized, p .exchange-fits)
+
+commodity-general-requires : tie.Need-commodity-general-requires
+commodity-general-requires c κs =
+    let p = cost (c .before .before .before .before .before .before .before .before .before .before .before .before .before .before .before .before .before) in
+    ((p .longs-sized, p .shorts-sized), (p .commodity-fits, p .commodity-unused))
+
+-- the six charges
+module _ (c : tie.After-commodity-general) where
+  abbrev at-exchange : tie.After-exchange-general
+  at-exchange = c .before .before .before .before
+
+  abbrev at-equity : tie.After-equity-general
+  at-equity = at-exchange .before .before .before
+
+  abbrev at-specific : tie.After-group-total2
+  at-specific = at-equity .before .before .before
+
+  abbrev at-interest : tie.After-interest-general
+  at-interest = at-specific .before .before
+
+  abbrev at-first : tie.After-group-total
+  at-first = at-interest .before .before .before .before
+
+  abbrev at : tie.Else1
+  at = at-first .before .before
+
+  six : Six standardTable (s at) (at-first .group-total .result) (at-interest .interest-general .result) (at-specific .group-total2 .result)
+      (at-equity .equity-general .result) (at-exchange .exchange-general .result) (c .commodity-general .result)
+  six =
+      record {
+        is1 = at-first .group-total .ensures ∙ cost at .interest-specific-is;
+        is2 = at-interest .interest-general .ensures ∙ cost at .interest-is;
+        is3 = at-specific .group-total2 .ensures ∙ cost at .equity-specific-is;
+        is4 = at-equity .equity-general .ensures ∙ cost at .equity-is;
+        is5 = at-exchange .exchange-general .ensures ∙ cost at .exchange-is;
+        is6 = c .commodity-general .ensures ∙ cost at .commodity-is;
+      }
 
 charged-report-requires : tie.Need-charged-report-requires
 charged-report-requires c κs =
-    let at-interest = c .before .before .before .before .before .before in
-    let at = at-interest .before .before .before .before .before .before in
-    rw (
-      cost at 1 (omega arith) (omega arith) (interestRisk standardTable) (at-interest .interest-risk .ensures) (at-interest .before .body .ensures),
-      cost at 2 (omega arith) (omega arith) equityRisk (c .before .before .before .before .equity-risk .ensures) (c .before .before .before .before .before .body2 .ensures),
-      cost at 3 (omega arith) (omega arith) exchangeGeneral (c .before .before .exchange-charge .ensures) (c .before .before .before .body3 .ensures),
-      cost at 4 (omega arith) (omega arith) commodityGeneral (c .commodity-charge .ensures) (c .before .body4 .ensures),
-    )
-    (total-fits _ _ (at .read .ensures) standardTable standard-accepted)
+    let e = at c in
+    six-fit standardTable _ _ (e .before .before .before .take-book .ensures .is-taken) (e .if1 .left) _ _ _ _ _ _ (six c) standard-accepted (of e)
 
 returns-2 : tie.Need-returns-2
-unfolding reportOf accepts
 returns-2 c =
-    let all = c .before in
-    let at-interest = all .before .before .before .before .before .before in
-    let at = at-interest .before .before .before .before .before .before in
-    let good = at-interest .before .before .if1 .left in
-    simp (eq-eqb _ _ (ap (λ (r : Refusal). r .number) (sym (refusal-is at)) ∙ good))
-    (c .charged-report .ensures
-    ∙ rw (
-      class-cost at 1 (omega arith) (omega arith) (interestRisk standardTable) (at-interest .interest-risk .ensures) (at-interest .before .body .ensures) good,
-      class-cost at 2 (omega arith) (omega arith) equityRisk (all .before .before .before .before .equity-risk .ensures) (all .before .before .before .before .before .body2 .ensures) good,
-      class-cost at 3 (omega arith) (omega arith) exchangeGeneral (all .before .before .exchange-charge .ensures) (all .before .before .before .body3 .ensures) good,
-      class-cost at 4 (omega arith) (omega arith) commodityGeneral (all .commodity-charge .ensures) (all .before .body4 .ensures) good,
-    ))
+    let e = at (c .before) in
+    report-charged standardTable _ _ (e .before .before .before .take-book .ensures .is-taken) (e .if1 .left) _ _ _ _ _ _ (six (c .before)) _ (c .charged-report .ensures)
 
 pub charge-spec : {M : Type 1} → statement M
 charge-spec =
     tie.close
     (tie.spec
-    (λ c. search needs)
+    take-book-requires
     (λ c. search needs)
     returns
-    (λ c. search needs)
-    interest-risk-requires
-    (λ c. search needs)
-    equity-risk-requires
-    (λ c. search needs)
-    exchange-charge-requires
-    (λ c. search needs)
-    commodity-charge-requires
+    group-total-requires
+    interest-general-requires
+    group-total-requires-2
+    equity-general-requires
+    exchange-general-requires
+    commodity-general-requires
     charged-report-requires
     returns-2)

@@ -1,71 +1,46 @@
--- The sums of a class's rows as the code keeps them: a table of longs and one of shorts, fifteen slots to a group.
-use Prim.Native.Nat.{ℕ, _+_, _*_, _≤_}
+-- What the code reads out of its tables of sums.
+use Prim.Native.Nat.{ℕ, _+_, _*_, _≤_, _<_}
 use mathlib.Core.Path.{_≡_}
-use mathlib.Core.Bool.{Bool, true, _&&_}
-use mathlib.Core.List.{List, [], _∷_}
-use lib.Dec.{leb}
-use lib.ListN.{length, getD, replicate}
+use mathlib.Core.List.{List}
+use lib.ListN.{getD, take}
 use Rattle.sums.specs.Sums.{sumOf, span}
 use Rattle.sums.specs.Every.{Every}
-use Rattle.sums.specs.Inner.Tables.{tally}
-use Rattle.book.specs.declared.Row.{Row}
-use Rattle.book.specs.Refusals.{mostRows, mostAmount, lastGroup}
-use Rattle.book.specs.Accepted.{Clean}
-use Rattle.book.specs.Inner.Reading.{partRows}
+use Rattle.book.specs.Refusals.{mostRows, mostAmount}
 use Rattle.ladder.specs.Position.{Bands, gross, total}
 use Rattle.ladder.specs.Table.{Table, weightIn}
+use Rattle.ladder.specs.Commodity.{commodityBandCount}
 use Rattle.ladder.specs.Inner.Steps.{bandCount}
-use Rattle.charges.specs.Bands.{bandIn}
-use Rattle.charges.specs.Charges.{specificOf}
+use Rattle.charges.specs.Charges.{groups}
+use Rattle.charges.specs.Inner.Slots.{groupCount, commodityFirst}
+pub use Rattle.charges.specs.declared.tables.Used.{Used}
 
--- each entry of a column is at most the next
-unfoldable pub ascending : List ℕ → Bool
-ascending [] = true
-ascending (last ∷ []) = true
-ascending (last ∷ (next ∷ column)) = leb last next && ascending (next ∷ column)
-
--- the groups of a class, and the slots of a table: for each group one for each band of the interest ladder
-abbrev pub groupCount : ℕ
-groupCount = lastGroup + 1
-
-abbrev pub slotCount : ℕ
-slotCount = groupCount * bandCount
-
--- the slot of a row's group and band
-unfoldable pub slotIn : ℕ → Row → ℕ
-slotIn class row = bandCount * row .group + bandIn class row
-
--- the sums of some rows of a class: longs and shorts by slot, and the specific charge
-pub record SumsOf (class : ℕ) (rows : List Row) (longs shorts : List ℕ) (specific : ℕ) : Type 0 where
-  pub is-longs : longs ≡ tally (slotIn class) (λ row. row .long) (replicate slotCount 0) rows
-  pub is-shorts : shorts ≡ tally (slotIn class) (λ row. row .short) (replicate slotCount 0) rows
-  pub is-specific : specific ≡ sumOf (specificOf class) rows
-
--- the bands of a group as they stand in the tables
-abbrev pub tableBands : List ℕ → List ℕ → ℕ → Bands
-tableBands longs shorts group = λ k. record { long = getD longs (bandCount * group + k) 0; short = getD shorts (bandCount * group + k) 0 }
-
--- what a group's bands come to on both sides
-abbrev pub tableGross : List ℕ → List ℕ → ℕ → ℕ
-tableGross longs shorts group = gross (total (tableBands longs shorts group) (span 0 bandCount))
-
--- no class's gross is above this: 4,000 rows of the largest amount
+-- no class's gross is above this: 4,000 rows of the largest amount; nor its specific charge above 8% of it
 abbrev pub mostGross : ℕ
 mostGross = mostAmount * mostRows
 
--- the weighted bands of a currency
-abbrev pub weightedBands : Table → List ℕ → List ℕ → ℕ → Bands
-weightedBands table longs shorts group =
-    λ k. record {
-      long = weightIn table k * getD longs (bandCount * group + k) 0;
-      short = weightIn table k * getD shorts (bandCount * group + k) 0;
-    }
+-- the bands from a slot on
+abbrev pub bandsFrom : List ℕ → List ℕ → ℕ → Bands
+bandsFrom longs shorts first = λ k. record { long = getD longs (first + k) 0; short = getD shorts (first + k) 0 }
 
--- the groups of a class without bands
-abbrev pub tableGroups : List ℕ → List ℕ → Bands
-tableGroups longs shorts = λ group. record { long = getD longs (bandCount * group) 0; short = getD shorts (bandCount * group) 0 }
+-- what so many bands from a slot on come to on both sides
+abbrev pub grossFrom : ℕ → List ℕ → List ℕ → ℕ → ℕ
+grossFrom many longs shorts first = gross (total (bandsFrom longs shorts first) (span 0 many))
 
--- a part whose rows are clean and at most 4,000
-pub record CleanPart (class : ℕ) (part : List ℕ) : Type 0 where
-  pub clean : Every (Clean class) (partRows part)
-  pub few : length (partRows part) ≤ mostRows
+-- the weighted bands from a slot on
+abbrev pub weightedFrom : Table → List ℕ → List ℕ → ℕ → Bands
+weightedFrom table longs shorts first =
+    λ k. record { long = weightIn table k * getD longs (first + k) 0; short = weightIn table k * getD shorts (first + k) 0 }
+
+-- the first slot of a currency, and of a commodity
+abbrev pub currencyAt : ℕ → ℕ
+currencyAt group = bandCount * group
+
+abbrev pub commodityAt : ℕ → ℕ
+commodityAt group = commodityFirst + commodityBandCount * group
+
+-- the groups that are counted, at the front of a list: what costs nothing where none is counted sums over them as over all
+pub record UsedOf (count : ℕ → ℕ) (used : Used) : Type 0 where
+  pub few : used .many ≤ groupCount
+  pub each : Every (λ group. group < groupCount) (take (used .many) (used .list))
+  pub sums : (cost : ℕ → ℕ) → ((group : ℕ) → group < groupCount → count group ≡ 0 → cost group ≡ 0)
+      → sumOf cost (take (used .many) (used .list)) ≡ sumOf cost groups

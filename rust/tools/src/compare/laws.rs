@@ -16,8 +16,8 @@ const FIGURES: [&str; 7] = [
 ];
 
 /// The report of a book.
-fn report(calls: &dyn Calls, book: &[u8]) -> [u64; 10] {
-    let mut out = [0; 10];
+fn report(calls: &dyn Calls, book: &[u8]) -> [u64; 11] {
+    let mut out = [0; 11];
     calls.charge(book, &mut out);
     out
 }
@@ -65,7 +65,7 @@ fn order_and_mirror(calls: &dyn Calls, case: &Case) -> Option<String> {
     })
 }
 
-/// A joined book under the zone premise costs at most its parts.
+/// A joined book has the rows of its parts and, under the zone premise, costs at most these.
 fn joining(calls: &dyn Calls, case: &Case) -> Option<String> {
     let mut joined = vec![0; (case.a.len() + case.b.len()).saturating_sub(8)];
     let mut result = [0; 4];
@@ -77,6 +77,10 @@ fn joining(calls: &dyn Calls, case: &Case) -> Option<String> {
     let whole = report(calls, &joined);
     if whole[0] != 0 {
         return Some(format!("the joined book is refused with {}", whole[0]));
+    }
+    if whole[10] != a[10] + b[10] {
+        let [whole, a, b] = [whole, a, b].map(|report| report[10]);
+        return Some(format!("joined, {whole} rows are taken, not {a} and {b}"));
     }
     if !two_zones(&joined) {
         return None;

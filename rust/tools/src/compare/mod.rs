@@ -24,12 +24,13 @@ pub const COMMAND: Command = Command {
 Makes N pairs of random and damaged books from seed S and holds the proved library to
 the second calculation: all five calls, every entry of every result and every byte of
 every output. Demand 3 is sampled too: a reordered, mirrored, or reordered and mirrored
-book has the same report, and a joined book with at most two zones used in each
-currency costs at most its two parts, in each charge and the total.
+book has the same report; a joined book takes as many rows as its two parts and, with at
+most two zones used in each currency, costs at most these, in each charge and the total.
 
 On a difference it prints the smallest books that it can find, in hex and as CSV, and
 stops with exit status 1. It also fails when the pairs have shown too little: every
-refusal, joins made, and joins under the zone premise must come up in proportion to N.
+refusal, accepted books with rows, books refused after their first row, joins made, and
+joins under the zone premise must come up in proportion to N.
 
   --seed S    the seed, 1 if not given
   --count N   how many pairs, 20000 if not given

@@ -47,7 +47,7 @@ impl Calls for StandIn<'_> {
     fn check(&self, book: &[u8], out: &mut [u64; 3]) {
         self.answer(Call::Check, out, |out| Second.check(book, out));
     }
-    fn charge(&self, book: &[u8], out: &mut [u64; 10]) {
+    fn charge(&self, book: &[u8], out: &mut [u64; 11]) {
         self.answer(Call::Charge, out, |out| Second.charge(book, out));
     }
     fn interest_ladder(&self, book: &[u8], group: usize, out: &mut [u64; 13]) {
@@ -136,7 +136,9 @@ fn a_run_that_has_seen_too_little_fails() {
     let message = failure(&empty);
     assert!(message.starts_with("20000 pairs have shown too little\n"));
     assert!(message.contains("\nbooks refused 9: 0 where at least 150 are wanted\n"));
-    assert!(!message.contains("books accepted"), "{message}");
+    assert!(message.contains("\nbooks accepted with rows: 0 where"));
+    assert!(message.contains("\nbooks refused after their first row: 0 where"));
+    assert!(!message.contains("books accepted: "), "{message}");
     empty.count = 50;
     assert!(empty.outcome().is_ok());
 }

@@ -8,6 +8,10 @@ use std::fmt;
 #[derive(Default)]
 pub struct Tally {
     pub accepted: u64,
+    /// Accepted first books that have rows: nothing is taken of the others.
+    pub with_rows: u64,
+    /// First books that are refused at a row after their first: by then rows were taken.
+    pub after_first: u64,
     /// First books by the number of their refusal, 1 to 9.
     pub refused: [u64; 10],
     pub ladder_refused: u64,
@@ -20,6 +24,8 @@ pub struct Tally {
 /// What 20,000 cases must show at least: about a third of what they do show.
 const LEAST: Tally = Tally {
     accepted: 3_500,
+    with_rows: 2_900,
+    after_first: 1_250,
     refused: [0, 80, 150, 800, 400, 300, 300, 300, 400, 150],
     ladder_refused: 800,
     joins: [
@@ -38,10 +44,13 @@ const FEWEST: u64 = 10;
 impl Tally {
     /// Counts a case, by the second calculation.
     pub fn count(&mut self, case: &Case) {
-        match second::check(&case.a).number {
+        let refusal = second::check(&case.a);
+        match refusal.number {
             0 => self.accepted += 1,
             number => self.refused[number as usize] += 1,
         }
+        self.with_rows += u64::from(refusal.accepted() && case.a.len() > 8);
+        self.after_first += u64::from(refusal.row > 0);
         self.ladder_refused += u64::from(case.group > 31);
         let mut out = vec![0; case.room];
         let joined = second::join(&case.a, &case.b, &mut out);
@@ -61,6 +70,11 @@ impl Tally {
         };
         let mut counts = vec![
             ("books accepted".to_string(), self.accepted),
+            ("books accepted with rows".to_string(), self.with_rows),
+            (
+                "books refused after their first row".into(),
+                self.after_first,
+            ),
             ("ladders refused 10".to_string(), self.ladder_refused),
             ("joins made".to_string(), self.joins[0]),
             ("joins under the zone premise".to_string(), self.premise),
@@ -95,6 +109,11 @@ impl fmt::Display for Tally {
         let refused = numbered(&self.refused, 1..=9);
         let not_joined = numbered(&self.joins, (1..=9).chain(11..=12));
         writeln!(out, "books accepted {}, refused {refused}", self.accepted)?;
+        writeln!(
+            out,
+            "books accepted with rows {}, refused after their first row {}",
+            self.with_rows, self.after_first
+        )?;
         writeln!(out, "ladders refused 10: {}", self.ladder_refused)?;
         writeln!(
             out,
@@ -130,6 +149,11 @@ mod tests {
             assert!(lacking[0].starts_with(&format!("{name}: ")), "{lacking:?}");
         };
         alone(|tally| &mut tally.accepted, "books accepted");
+        alone(|tally| &mut tally.with_rows, "books accepted with rows");
+        alone(
+            |tally| &mut tally.after_first,
+            "books refused after their first row",
+        );
         alone(|tally| &mut tally.ladder_refused, "ladders refused 10");
         alone(|tally| &mut tally.joins[0], "joins made");
         alone(|tally| &mut tally.premise, "joins under the zone premise");
@@ -151,12 +175,12 @@ mod tests {
     #[test]
     fn minimums_follow_the_count() {
         let nothing = Tally::default();
-        assert_eq!(nothing.lacking(20_000).len(), 5 + 9 + 11);
+        assert_eq!(nothing.lacking(20_000).len(), 7 + 9 + 11);
         assert!(LEAST.lacking(20_100).len() > 10);
         let half = nothing.lacking(10_000);
         assert!(half.contains(&"joins refused 11: 0 where at least 10 are wanted".to_string()));
         // Few cases may miss the rarest, and very few may miss anything.
-        assert_eq!(nothing.lacking(9_999).len(), 5 + 9 + 10);
+        assert_eq!(nothing.lacking(9_999).len(), 7 + 9 + 10);
         assert_eq!(nothing.lacking(57), [""; 0]);
     }
 }

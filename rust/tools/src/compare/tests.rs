@@ -13,6 +13,14 @@ enum Fault {
     Carried,
     /// The report's last entry is not written.
     Unwritten,
+    /// No row is said to be taken.
+    NoneTaken,
+    /// One row too many is said to be taken.
+    OneMoreTaken,
+    /// The rows before a bad one are still said to be taken.
+    TakenKept,
+    /// Each row is taken twice.
+    TakenTwice,
     /// Join writes one byte past the joined book.
     PastTheEnd,
     /// A refused join writes its first byte.
@@ -36,14 +44,20 @@ impl Calls for Faulty {
         Second.check(book, out);
     }
 
-    fn charge(&self, book: &[u8], out: &mut [u64; 10]) {
-        let last = out[9];
+    fn charge(&self, book: &[u8], out: &mut [u64; 11]) {
+        let last = out[10];
         Second.charge(book, out);
+        if out[0] != 0 && self.0 == Fault::TakenKept {
+            out[10] = out[1];
+        }
         if out[0] != 0 || book.len() < 24 {
             return;
         }
         match self.0 {
-            Fault::Unwritten => out[9] = last,
+            Fault::Unwritten => out[10] = last,
+            Fault::NoneTaken => out[10] = 0,
+            Fault::OneMoreTaken => out[10] += 1,
+            Fault::TakenTwice => out[10] *= 2,
             Fault::Order => out[3] += u64::from(book[14]),
             Fault::Side => out[3] += u64::from(book[16]),
             Fault::Dear => out[9] += book.len() as u64 * book.len() as u64,
@@ -104,6 +118,10 @@ fn every_fault_is_found() {
     let faults = [
         Fault::Carried,
         Fault::Unwritten,
+        Fault::NoneTaken,
+        Fault::OneMoreTaken,
+        Fault::TakenKept,
+        Fault::TakenTwice,
         Fault::PastTheEnd,
         Fault::RefusedWrites,
         Fault::Order,
@@ -119,6 +137,7 @@ fn the_laws_alone_find_what_the_figures_of_one_book_cannot() {
         (Fault::Order, "reordered"),
         (Fault::Side, "mirrored"),
         (Fault::Dear, "joined, total is"),
+        (Fault::OneMoreTaken, " rows are taken, not "),
     ] {
         let broken = |number| laws::broken(&Faulty(fault), &Case::new(1, number));
         let first = (0..3_000)
@@ -141,4 +160,25 @@ fn a_difference_is_shown_with_a_small_book() {
         "{text}"
     );
     assert!(text.contains("\ncommodity,0,none,0,0,0,"), "{text}");
+}
+
+/// Catches a comparison that leaves the rows taken out: every other entry is right here.
+#[test]
+fn wrong_rows_taken_are_shown_with_as_few_rows_as_can_be() {
+    let faults = [
+        (Fault::NoneTaken, [0, 0, 1]),
+        (Fault::OneMoreTaken, [0, 2, 1]),
+        (Fault::TakenTwice, [0, 2, 1]),
+        (Fault::TakenKept, [1, 1, 0]),
+    ];
+    for (fault, [row, wrong, right]) in faults {
+        let (number, case) = found(fault).unwrap();
+        let text = run(&Faulty(fault)).explain(&case, number);
+        let what = text.lines().nth(1).unwrap();
+        assert!(what.starts_with("charge: "), "{text}");
+        assert!(what.contains(&format!(", {wrong}], the second")), "{text}");
+        assert!(what.ends_with(&format!(", {right}]")), "{text}");
+        let bytes = 24 + 16 * row;
+        assert!(text.contains(&format!("book A, {bytes} bytes: ")), "{text}");
+    }
 }

@@ -63,15 +63,82 @@ fn refused() -> Vec<Vec<u8>> {
     vec![only(1, &last), short, only(2, &runs(2, 4001))]
 }
 
+/// 4,000 rows of all classes, of each another number.
+fn mixed() -> [Vec<Row>; 4] {
+    [(0, 1700), (1, 900), (2, 600), (3, 800)].map(|(class, count)| runs(class, count))
+}
+
+/// The bytes of four bodies.
+fn bytes(bodies: &[Vec<Row>; 4]) -> Vec<u8> {
+    book(bodies.each_ref().map(|body| &body[..]))
+}
+
+/// The mixed book refused at its last row, with each of 4 to 9, and at its first.
+fn spoiled() -> Vec<Vec<u8>> {
+    let last = mixed()[3][799];
+    let bad = [
+        last.with_group(32),
+        last.with_kind(1),
+        last.with_days(36_001),
+        last.with_coupon(1),
+        last.with_sides(0, 0),
+        last.with_sides(0, 1_000_000_001),
+    ];
+    let with = |class: usize, at: usize, row: Row| {
+        let mut bodies = mixed();
+        bodies[class][at] = row;
+        bytes(&bodies)
+    };
+    let at_last = bad.map(|row| with(3, 799, row));
+    let at_first = with(0, 0, mixed()[0][0].with_group(32));
+    [&at_last[..], &[at_first]].concat()
+}
+
 /// All of them.
 pub fn cases() -> Vec<Case> {
     let mut cases = Vec::new();
-    for book in accepted() {
-        cases.extend(all_calls(&book, &[31]));
+    for book in accepted().iter().chain(&[bytes(&mixed())]) {
+        cases.extend(all_calls(book, &[31]));
     }
-    for book in refused() {
-        cases.push(call(Call::Check, &book));
-        cases.push(call(Call::Charge, &book));
+    for book in refused().iter().chain(&spoiled()) {
+        cases.push(call(Call::Check, book));
+        cases.push(call(Call::Charge, book));
     }
     cases
+}
+
+#[cfg(test)]
+mod tests {
+    use super::super::answers::lines;
+    use super::*;
+
+    /// Catches a stored figure that is kept when a late row is bad, and books that are not
+    /// refused where they should be.
+    #[test]
+    fn a_bad_row_leaves_no_figure_and_no_row_taken() {
+        let mut places: Vec<(u64, u64)> = (4..=9).map(|number| (number, 3999)).collect();
+        places.push((4, 0));
+        let books = spoiled();
+        assert_eq!(books.len(), places.len());
+        for (book, (number, row)) in books.iter().zip(places) {
+            assert_eq!(book.len(), 64_008);
+            let line = lines(&[call(Call::Charge, book)]);
+            assert_eq!(line, format!("charge {number} {row} 0 0 0 0 0 0 0 0 0\n"));
+        }
+    }
+
+    /// Catches a mixed book that is not accepted, or a figure of it that is nothing.
+    #[test]
+    fn every_figure_of_the_mixed_book_is_stored() {
+        let line = lines(&[call(Call::Charge, &bytes(&mixed()))]);
+        let figures: Vec<&str> = line.split_whitespace().collect();
+        assert_eq!(figures[..4], ["charge", "0", "0", "0"]);
+        assert_eq!(figures.len(), 12);
+        assert!(!figures[4..].contains(&"0"), "{line}");
+        assert_eq!(figures[11], "4000");
+        let stored = cases();
+        let charged = |book: &[u8]| stored.contains(&call(Call::Charge, book));
+        assert!(charged(&bytes(&mixed())));
+        assert!(spoiled().iter().all(|book| charged(book)));
+    }
 }

@@ -1,24 +1,18 @@
 -- `charges::bands::band_in` meets its contract: the match on the class is the definition's.
-use mathlib.Core.Path.{refl}
 use native.Mathlib.Omega.{arith}
-use borrow.Author.Tests.{ne-eqb}
-use Rattle.charges.specs.Inner.Tables.{ascending}
-use Rattle.charges.specs.Bands.{commodityBand, bandIn}
 use borrow.Author.Needs.{needs}
+use borrow.Author.Tests.{ne-eqb}
+use Rattle.charges.specs.Bands.{bandIn}
 use Rattle.charges.proofs.bands.band_in.Statement.{statement}
 use Rattle.charges.proofs.bands.band_in.Tie as tie
-
-first-band-requires : tie.Need-first-band-requires
-unfolding ascending
-first-band-requires c κs = refl
 
 returns : tie.Need-returns
 unfolding bandIn
 returns c = (simp (c .before .match .keys1) (c .interest-band .ensures .0), omega arith)
 
 returns-2 : tie.Need-returns-2
-unfolding bandIn commodityBand
-returns-2 c = (simp (c .before .before .match .keys2) (c .first-band .ensures .0), omega arith)
+unfolding bandIn
+returns-2 c = (simp (c .before .match .keys2) (c .commodity-band .ensures .0), omega arith)
 
 returns-3 : tie.Need-returns-3
 unfolding bandIn
@@ -32,7 +26,6 @@ band-in-spec =
     (tie.spec
     (λ c. search needs)
     (λ c. search needs)
-    first-band-requires
     returns
     returns-2
     returns-3)

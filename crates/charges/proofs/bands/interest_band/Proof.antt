@@ -1,36 +1,53 @@
 -- `charges::bands::interest_band` meets its contract: the column goes by the coupon, and both ascend.
-use mathlib.Core.Path.{refl}
+use mathlib.Core.Path.{_≡_, refl, ap, _∙_}
+use mathlib.Core.Bool.{Bool, true, false, cond}
+use mathlib.Core.List.{List}
+use Prim.Native.Nat.{ℕ, _+_, _*_, _≤_}
 use native.Mathlib.Omega.{arith}
-use borrow.Author.Tests.{lt-ltb, le-ltb}
-use Rattle.charges.specs.Inner.Tables.{ascending}
-use Rattle.charges.specs.Bands.{interestBand}
+use mir.Val.{boolByte}
 use borrow.Author.Needs.{needs}
+use lib.Dec.{ltb}
+use lib.ListN.{length, getD}
+use Rattle.charges.specs.Bands.{firstBand, highColumn, lowColumn, interestBand}
+use Rattle.charges.specs.Inner.Columns.{ascending, columnSize, largest, columns, columnFrom}
+use Rattle.charges.proofs.Columns.{first-within, counts-once, first-filled}
 use Rattle.charges.proofs.bands.interest_band.Statement.{statement}
 use Rattle.charges.proofs.bands.interest_band.Tie as tie
 
-first-band-requires : tie.Need-first-band-requires
+-- each column ascends, and no days are above its last entry
+asked : (all : List ℕ) (days : ℕ) (low : Bool) → all ≡ columns → days ≤ largest
+    → ((length all ≡ 48) × (columnSize * boolByte low + columnSize ≤ 48))
+    × ((ascending (columnFrom (columnSize * boolByte low) all) ≡ true) × (days ≤ getD all (columnSize * boolByte low + 15) 0))
 unfolding ascending
-first-band-requires c κs = refl
+asked all days true is h = rw is ((refl, omega arith), (refl, h))
+asked all days false is h = rw is ((refl, omega arith), (refl, h))
 
-first-band-requires-2 : tie.Need-first-band-requires-2
-unfolding ascending
-first-band-requires-2 c κs = refl
+found : (days : ℕ) (low : Bool) → days ≤ largest
+    → (firstBand days (columnFrom (columnSize * boolByte low) columns) ≡ cond low (firstBand days lowColumn) (firstBand days highColumn))
+    × (cond low (firstBand days lowColumn) (firstBand days highColumn) ≤ 14)
+found days true h = (first-filled days h lowColumn 2, first-within days lowColumn)
+found days false h = (first-filled days h highColumn 4, omega (arith, first-within days highColumn))
+
+mul-first-band : tie.Need-mul-first-band
+mul-first-band c = omega (arith, counts-once (ltb (c .before .args .row .coupon) 300))
+
+first-band-requires : tie.Need-first-band-requires
+first-band-requires c κs = asked _ _ (ltb (c .before .args .row .coupon) 300) (c .before .pre) (omega arith)
 
 returns : tie.Need-returns
 unfolding interestBand
-returns c = (simp (lt-ltb _ _ (c .before .before .if1 .taken)) (c .first-band .ensures .0), omega arith)
-
-returns-2 : tie.Need-returns-2
-unfolding interestBand
-returns-2 c = (simp (le-ltb _ _ (c .before .before .if1 .left)) (c .first-band2 .ensures .0), omega arith)
+returns c =
+    let row = c .before .before .args .row in
+    let low = ltb (row .coupon) 300 in
+    let here = found (row .days) low (omega arith) in
+    let is = c .first-band .ensures ∙ ap (λ (all : List ℕ). firstBand (row .days) (columnFrom (columnSize * boolByte low) all)) (c .before .before .pre) ∙ here .0 in
+    (is, omega (arith, is, here .1))
 
 pub interest-band-spec : {M : Type 1} → statement M
 interest-band-spec =
     tie.close
     (tie.spec
     (λ c. search needs)
+    mul-first-band
     first-band-requires
-    (λ c. search needs)
-    first-band-requires-2
-    returns
-    returns-2)
+    returns)

@@ -1,6 +1,6 @@
 -- `charges::tables::commodity_bands` meets its contract: the array is filled band by band.
 use mathlib.Core.Path.{refl}
-use Prim.Native.Nat.{_+_, _*_, _-_}
+use Prim.Native.Nat.{_+_, _-_}
 use native.Mathlib.Omega.{arith}
 use borrow.Author.Needs.{needs}
 use lib.ListN.{getD}
@@ -9,10 +9,10 @@ use Rattle.charges.proofs.tables.commodity_bands.Statement.{statement}
 use Rattle.charges.proofs.tables.commodity_bands.Tie as tie
 
 abbrev Inv-loop : tie.InvT-loop
-Inv-loop table group out₀ k₀ out k = Filled 7 (λ j. getD table (15 * group + j) 0) out k
+Inv-loop table first out₀ k₀ out k = Filled 7 (λ j. getD table (first + j) 0) out k
 
 abbrev μ-loop : tie.MeasureT-loop
-μ-loop table group out₀ k₀ out k = 7 - k
+μ-loop table first out₀ k₀ out k = 7 - k
 
 loop-holds : tie.Need-loop-holds Inv-loop μ-loop
 loop-holds c = filled-none _ _ _ refl
@@ -30,7 +30,6 @@ commodity-bands-spec =
     Inv-loop
     μ-loop
     loop-holds
-    (λ c. search needs)
     (λ c. search needs)
     (λ c. search needs)
     (λ c. search needs)

@@ -10,17 +10,17 @@ use Rattle.charges.proofs.tables.weighted_bands.Statement.{statement}
 use Rattle.charges.proofs.tables.weighted_bands.Tie as tie
 
 abbrev Inv-loop : tie.InvT-loop
-Inv-loop table group weights out₀ k₀ out k = Filled 15 (λ j. weightIn standardTable j * getD table (15 * group + j) 0) out k
+Inv-loop table first weights out₀ k₀ out k = Filled 15 (λ j. weightIn standardTable j * getD table (first + j) 0) out k
 
 abbrev μ-loop : tie.MeasureT-loop
-μ-loop table group weights out₀ k₀ out k = 15 - k
+μ-loop table first weights out₀ k₀ out k = 15 - k
 
 loop-holds : tie.Need-loop-holds Inv-loop μ-loop
 loop-holds c = filled-none _ _ _ refl
 
-mul-out-4 : tie.Need-mul-out-4 Inv-loop μ-loop
+mul-out-3 : tie.Need-mul-out-3 Inv-loop μ-loop
 unfolding weightIn
-mul-out-4 c = omega (arith, c .before .before .before .pre .1 (c .before .before .loop .k) (omega arith))
+mul-out-3 c = omega (arith, c .before .before .before .pre .1 (c .before .before .loop .k) (omega arith))
 
 loop-again : tie.Need-loop-again Inv-loop μ-loop
 unfolding weightIn
@@ -41,8 +41,7 @@ weighted-bands-spec =
     (λ c. search needs)
     (λ c. search needs)
     (λ c. search needs)
-    (λ c. search needs)
-    mul-out-4
+    mul-out-3
     (λ c. search needs)
     (λ c. search needs)
     (λ c. search needs)
