@@ -24,8 +24,8 @@
  *     market_risk_commodity_ladder   600
  *     market_risk_join               500
  *
- * All but check and join call memset. Where the loader binds it at its first call, that
- * call takes some 3000 bytes more, once.
+ * The charge calls memset. Where the loader binds it at its first call, that call takes
+ * some 3000 bytes more, once.
  */
 #ifndef MARKET_RISK_H
 #define MARKET_RISK_H

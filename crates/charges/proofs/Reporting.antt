@@ -58,13 +58,13 @@ total-fits table ok s of =
     )
 
 -- the six charges of a book
-pub record Six (table : Table) (s : List ℕ) (interest-specific interest-general equity-specific equity-general exchange commodity : ℕ) : Type 0 where
-  pub is1 : interest-specific ≡ specificCharge 1 (classRows s 1)
-  pub is2 : interest-general ≡ interestGeneral table (classRows s 1)
-  pub is3 : equity-specific ≡ specificCharge 2 (classRows s 2)
-  pub is4 : equity-general ≡ equityGeneral (classRows s 2)
-  pub is5 : exchange ≡ exchangeGeneral (classRows s 3)
-  pub is6 : commodity ≡ commodityGeneral (classRows s 4)
+pub record Six (table : Table) (s : List ℕ) (p g q h x y : ℕ) : Type 0 where
+  pub interest-specific : p ≡ specificCharge 1 (classRows s 1)
+  pub interest-general : g ≡ interestGeneral table (classRows s 1)
+  pub equity-specific : q ≡ specificCharge 2 (classRows s 2)
+  pub equity-general : h ≡ equityGeneral (classRows s 2)
+  pub exchange : x ≡ exchangeGeneral (classRows s 3)
+  pub commodity : y ≡ commodityGeneral (classRows s 4)
 
 module _ (table : Table) (s : List ℕ) (taken : Taken) (is : taken ≡ takenOf (refusalOf s) (legsOf s)) where
   taken-refusal : taken .refusal ≡ refusalOf s
@@ -94,12 +94,12 @@ module _ (table : Table) (s : List ℕ) (taken : Taken) (is : taken ≡ takenOf 
 
     module _ (p g q h x y : ℕ) (six : Six table s p g q h x y) where
       pub six-fit : AcceptedTable table → Accepted s → p + g + q + h + x + y ≤ mostTotal
-      six-fit ok of = omega (arith, total-fits table ok s of, six .is1, six .is2, six .is3, six .is4, six .is5, six .is6)
+      six-fit ok of = omega (arith, total-fits table ok s of, six .interest-specific, six .interest-general, six .equity-specific, six .equity-general, six .exchange, six .commodity)
 
       pub report-charged : (report : Report) → report ≡ reportWith (record { specific = p; general = g }) (record { specific = q; general = h }) x y (taken .rows) → report ≡ reportOf table s
       unfolding reportOf accepts interestRisk equityRisk
       report-charged report r =
-          r ∙ simp (eq-eqb _ _ none-refused) (rw (six .is1, six .is2, six .is3, six .is4, six .is5, six .is6, taken-all))
+          r ∙ simp (eq-eqb _ _ none-refused) (rw (six .interest-specific, six .interest-general, six .equity-specific, six .equity-general, six .exchange, six .commodity, taken-all))
 
 -- ---- a part that was read
 -- no class has more rows than all

@@ -10,7 +10,8 @@ pub fn kinds(class: usize) -> &'static [(u8, &'static str)] {
     match class {
         0 => &[(1, "government"), (2, "qualifying"), (3, "other")],
         1 => &[(1, "ordinary"), (2, "diversified"), (3, "index")],
-        _ => &[(0, "none")],
+        2 | 3 => &[(0, "none")],
+        _ => &[],
     }
 }
 

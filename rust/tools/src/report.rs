@@ -14,7 +14,8 @@ pub const COMMAND: Command = Command {
 
 Prints the six charges of a book and their total in currency units, to the mil.
 A refused book is explained in words, with the fields of its row, and the exit
-status is 1.
+status is 1. The command fails too if the library took another number of rows than the
+file has, or if its six charges do not add up to its total.
 ",
     options: &[],
     flags: &[],
@@ -34,6 +35,22 @@ fn figures(report: &Report) -> String {
     ];
     let cells = |(name, value): &(&str, u64)| vec![name.to_string(), mils(*value)];
     table(&lines.iter().map(cells).collect::<Vec<_>>())
+}
+
+/// Why a report cannot be of the file: its rows taken and its total, counted again.
+fn doubt(bytes: &[u8], report: &Report) -> Option<String> {
+    let rows = Book::decode(bytes).unwrap_or_default().rows() as u64;
+    if report.taken != rows {
+        let taken = report.taken;
+        return Some(format!(
+            "the file has {rows} rows, the library took {taken}"
+        ));
+    }
+    let interest = report.interest_specific + report.interest_general;
+    let equity = report.equity_specific + report.equity_general;
+    let sum = interest + equity + report.exchange + report.commodity;
+    let total = report.total;
+    (total != sum).then(|| format!("the six charges are {sum} mils, the library's total {total}"))
 }
 
 /// What the refused field of a row may be.
@@ -96,7 +113,10 @@ fn run(args: &Args) -> Outcome {
     let [path] = args.files()?;
     let bytes = read_book(path)?;
     match market_risk::charge(&bytes) {
-        Ok(report) => print(&figures(&report)),
+        Ok(report) => match doubt(&bytes, &report) {
+            None => print(&figures(&report)),
+            Some(why) => Err(no(format!("{}: {why}", input(path)))),
+        },
         Err(refusal) => {
             let why = explain(&bytes, &refusal);
             Err(no(format!("{}: {why}", input(path))))
@@ -149,6 +169,16 @@ mod tests {
             explain(&bytes, &refusal),
             "refused 10: ladder group over 31"
         );
+    }
+
+    #[test]
+    fn a_total_that_is_not_the_sum_is_doubted() {
+        let bytes = Book::default().encode().unwrap();
+        let mut report = market_risk::charge(&bytes).unwrap();
+        assert_eq!(doubt(&bytes, &report), None);
+        report.commodity = 5;
+        let why = "the six charges are 5 mils, the library's total 0";
+        assert_eq!(doubt(&bytes, &report).as_deref(), Some(why));
     }
 
     /// The rows taken are not printed.

@@ -133,6 +133,18 @@ fn compare_fails_with_each_wrong_count_of_rows() {
     }
 }
 
+/// Catches a report that is printed without a look at the rows taken.
+#[test]
+fn report_fails_with_a_wrong_count_of_rows() {
+    let keyed = packed("keyed", "stand-in-report");
+    let words = ["report", &keyed];
+    assert!(run("none", &words).status.success());
+    let error = fails("none_taken", &words);
+    assert!(error.contains("the file has 3 rows, the library took 0"));
+    let error = fails("one_more_taken", &words);
+    assert!(error.contains("the file has 3 rows, the library took 4"));
+}
+
 /// Catches a ladder that is drawn without a look at the library's figures.
 #[test]
 fn ladder_fails_without_its_call() {

@@ -81,12 +81,12 @@ module _ (c : tie.After-commodity-general) where
       (at-equity .equity-general .result) (at-exchange .exchange-general .result) (c .commodity-general .result)
   six =
       record {
-        is1 = at-first .group-total .ensures ∙ cost at .interest-specific-is;
-        is2 = at-interest .interest-general .ensures ∙ cost at .interest-is;
-        is3 = at-specific .group-total2 .ensures ∙ cost at .equity-specific-is;
-        is4 = at-equity .equity-general .ensures ∙ cost at .equity-is;
-        is5 = at-exchange .exchange-general .ensures ∙ cost at .exchange-is;
-        is6 = c .commodity-general .ensures ∙ cost at .commodity-is;
+        interest-specific = at-first .group-total .ensures ∙ cost at .interest-specific-is;
+        interest-general = at-interest .interest-general .ensures ∙ cost at .interest-is;
+        equity-specific = at-specific .group-total2 .ensures ∙ cost at .equity-specific-is;
+        equity-general = at-equity .equity-general .ensures ∙ cost at .equity-is;
+        exchange = at-exchange .exchange-general .ensures ∙ cost at .exchange-is;
+        commodity = c .commodity-general .ensures ∙ cost at .commodity-is;
       }
 
 charged-report-requires : tie.Need-charged-report-requires
