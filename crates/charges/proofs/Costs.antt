@@ -33,11 +33,11 @@ use Rattle.charges.specs.Bands.{bandIn}
 use Rattle.charges.specs.Charges.{eightPerCent, groups, currencies, reading, specificOf, specificCharge}
 use Rattle.charges.specs.Charges.{interestGeneral, equityGeneral, exchangeGeneral, commodityGeneral}
 use Rattle.charges.specs.Report.{classRows}
-use Rattle.charges.specs.Inner.Slots.{groupCount, equityFirst, exchangeFirst, slotCount, bandsIn, slotAt, legSlot, legLong, legShort, legCounted, LegSums}
+use Rattle.charges.specs.Inner.Slots.{groupCount, equityFirst, exchangeFirst, slotCount, slotAt, legSlot, legLong, legShort, legCounted, LegSums}
 use Rattle.charges.specs.Inner.Tables.{mostGross, bandsFrom, grossFrom, weightedFrom, currencyAt, commodityAt}
 use Rattle.charges.proofs.Legs.{amounts, amounts-within, specific-within}
 use Rattle.charges.proofs.Rates.{groups-rate}
-use Rattle.charges.proofs.Places.{Placed}
+use Rattle.charges.proofs.Places.{bandsIn, Placed}
 use Rattle.charges.proofs.Figures.{interest-from, commodity-from}
 use Rattle.charges.proofs.Sorting.{Holds, holds, none-counted}
 

@@ -4,18 +4,24 @@ use mathlib.Core.Path.{_≡_, refl, sym, ap, _∙_}
 use mathlib.Core.Bool.{cond}
 use Prim.Native.Nat.{ℕ, _+_, _-_, _*_, _≤_, _<_}
 use native.Mathlib.Omega.{arith}
-use lib.Dec.{ltb}
+use lib.Dec.{ltb, eqb}
 use borrow.Author.Tests.{lt-ltb, le-ltb}
 use Rattle.sums.proofs.Cases.{either}
 use Rattle.book.specs.declared.Row.{Row}
 use Rattle.book.specs.Refusals.{lastGroup}
 use Rattle.book.specs.Legs.{Leg}
 use Rattle.book.proofs.Placing.{of-four}
+use Rattle.ladder.specs.Commodity.{commodityBandCount}
+use Rattle.ladder.specs.Inner.Steps.{bandCount}
 use Rattle.charges.proofs.Columns.{first-within}
 use Rattle.charges.specs.Bands.{firstBand, highColumn, lowColumn, commodityColumn, interestBand, commodityBand, bandIn}
-use Rattle.charges.specs.Inner.Slots.{groupCount, slotCount, bandsIn, slotAt, legSlot, groupSlot, legWith}
+use Rattle.charges.specs.Inner.Slots.{groupCount, slotCount, slotAt, legSlot, groupSlot, legWith}
 
 -- ---- a band is one of its class's
+-- the bands of a class
+unfoldable pub bandsIn : ℕ → ℕ
+bandsIn class = cond (eqb class 1) bandCount (cond (eqb class 4) commodityBandCount 1)
+
 pub interest-below : (row : Row) → interestBand row < 15
 unfolding interestBand
 interest-below row =

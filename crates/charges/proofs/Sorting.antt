@@ -20,8 +20,8 @@ use Rattle.book.specs.Refusals.{lastGroup}
 use Rattle.ladder.specs.Rows.{inGroup, ladderOf}
 use Rattle.charges.specs.Bands.{bandIn}
 use Rattle.charges.specs.Charges.{reading, specificOf}
-use Rattle.charges.specs.Inner.Slots.{groupCount, slotCount, bandsIn, slotAt, legWith, legSlot, groupSlots, groupSlot, legSpecific, legCounted, LegSums}
-use Rattle.charges.proofs.Places.{Placed, band-within, slot-below, one-place, own-slot, own-group}
+use Rattle.charges.specs.Inner.Slots.{groupCount, slotCount, slotAt, legWith, legSlot, groupSlots, groupSlot, legSpecific, legCounted, LegSums}
+use Rattle.charges.proofs.Places.{bandsIn, Placed, band-within, slot-below, one-place, own-slot, own-group}
 
 -- an index that only legs of one class have: what stands there is of the rows of that class
 module _ (index amount : Leg → ℕ) (at class : ℕ) (own : (leg : Leg) → Placed leg → index leg ≡ at → leg .class ≡ class) where

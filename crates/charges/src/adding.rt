@@ -31,6 +31,7 @@ fn add_amounts(at: usize, row: Row, longs: &mut [u64; SLOTS], shorts: &mut [u64;
     shorts[at] += row.short as u64;
 }
 
+// An interest row: its amounts at its currency's band, its specific charge, and one row more of the currency.
 pub fn add_interest(
     row: Row,
     columns: &[u16; bands::PLACES],
@@ -50,6 +51,7 @@ pub fn add_interest(
     rows[group] += 1;
 }
 
+// An equity row: its amounts at its market, and its specific charge.
 pub fn add_equity(
     row: Row,
     longs: &mut [u64; SLOTS],
@@ -65,6 +67,7 @@ pub fn add_equity(
     specifics[GROUPS + group] += weights::specific_charge(2, row);
 }
 
+// A foreign exchange row: its amounts at its currency.
 pub fn add_exchange(row: Row, longs: &mut [u64; SLOTS], shorts: &mut [u64; SLOTS])
     requires { ⌜ Clean 3 row ⌝ }
     requires { ⌜ Roomy slotCount mostAmount (now longs) × Roomy slotCount mostAmount (now shorts) ⌝ }
@@ -73,6 +76,7 @@ pub fn add_exchange(row: Row, longs: &mut [u64; SLOTS], shorts: &mut [u64; SLOTS
     add_amounts(EXCHANGE + (row.group as usize), row, longs, shorts);
 }
 
+// A commodity row: its amounts at its commodity's band, and one row more of the commodity.
 pub fn add_commodity(
     row: Row,
     columns: &[u16; bands::PLACES],

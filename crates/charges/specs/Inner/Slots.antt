@@ -32,10 +32,6 @@ exchangeFirst = equityFirst + groupCount
 abbrev pub slotCount : ℕ
 slotCount = exchangeFirst + groupCount
 
--- the bands of a class
-unfoldable pub bandsIn : ℕ → ℕ
-bandsIn class = cond (eqb class 1) bandCount (cond (eqb class 4) commodityBandCount 1)
-
 -- the slot of a band of a group of a class
 unfoldable pub slotAt : ℕ → ℕ → ℕ → ℕ
 slotAt class group band =

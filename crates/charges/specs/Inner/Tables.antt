@@ -1,10 +1,11 @@
 -- What the code reads out of its tables of sums.
-use Prim.Native.Nat.{ℕ, _+_, _*_, _≤_, _<_}
+use Prim.Native.Nat.{ℕ, _+_, _*_, _≤_}
 use mathlib.Core.Path.{_≡_}
-use mathlib.Core.List.{List}
+use mathlib.Core.Bool.{cond}
+use mathlib.Core.List.{List, [], _∷_}
+use lib.Dec.{eqb}
 use lib.ListN.{getD, take}
-use Rattle.sums.specs.Sums.{sumOf, span}
-use Rattle.sums.specs.Every.{Every}
+use Rattle.sums.specs.Sums.{span}
 use Rattle.book.specs.Refusals.{mostRows, mostAmount}
 use Rattle.ladder.specs.Position.{Bands, gross, total}
 use Rattle.ladder.specs.Table.{Table, weightIn}
@@ -38,9 +39,12 @@ currencyAt group = bandCount * group
 abbrev pub commodityAt : ℕ → ℕ
 commodityAt group = commodityFirst + commodityBandCount * group
 
--- the groups that are counted, at the front of a list: what costs nothing where none is counted sums over them as over all
+-- the groups of a list that are counted, in their order
+unfoldable pub countedGroups : (ℕ → ℕ) → List ℕ → List ℕ
+countedGroups count [] = []
+countedGroups count (group ∷ list) = cond (eqb (count group) 0) (countedGroups count list) (group ∷ countedGroups count list)
+
+-- all counted groups of a class at the front of a list; what stands after them is free
 pub record UsedOf (count : ℕ → ℕ) (used : Used) : Type 0 where
   pub few : used .many ≤ groupCount
-  pub each : Every (λ group. group < groupCount) (take (used .many) (used .list))
-  pub sums : (cost : ℕ → ℕ) → ((group : ℕ) → group < groupCount → count group ≡ 0 → cost group ≡ 0)
-      → sumOf cost (take (used .many) (used .list)) ≡ sumOf cost groups
+  pub is : take (used .many) (used .list) ≡ countedGroups count groups
