@@ -12,7 +12,7 @@ static _Alignas(16) volatile uint8_t room[ROOM];
 /* 1,000 rows of each class, group 1, days 270 or 0, long 5: with every class every part of a call runs. */
 static uint8_t book[8 + 4 * ROWS * 16];
 static uint8_t joined[sizeof book];
-static uint64_t out[13];
+static uint64_t out[75];
 
 static void fill(void)
 {

@@ -1,4 +1,5 @@
-/* Charges some small books through the C interface and prints their reports.
+/* Charges some small books through the C interface and prints their reports, with the
+ * interest charges of each currency that has any.
  *
  *     cc -Wall -Wextra -Werror -Iinclude examples/charge.c target/staticlib/libmarket_risk.a -o charge
  */
@@ -34,13 +35,31 @@ static const uint8_t classes[8 + 4 * 16] = {
     0, 0, 0xa0, 0x8c, 0,    0,    0, 0, 1, 0, 0, 0, 0, 0, 0, 0,
 };
 
+/* Two currencies, the first and the last. Currency 0: other paper, short 5 at 30 days, where
+ * its weight is 0. Currency 31, both at 60 days (0x3c): qualifying, long 10; other, short 4. */
+static const uint8_t currencies[8 + 3 * 16] = {
+    3, 0, 0, 0, 0, 0, 0, 0,
+    0,  3, 0x1e, 0, 0x20, 0x03, 0, 0, 0,  0, 0, 0, 5, 0, 0, 0,
+    31, 2, 0x3c, 0, 0x20, 0x03, 0, 0, 10, 0, 0, 0, 0, 0, 0, 0,
+    31, 3, 0x3c, 0, 0x20, 0x03, 0, 0, 0,  0, 0, 0, 4, 0, 0, 0,
+};
+
+/* Prints the specific and the general charge of each currency that has one. */
+static void print_currencies(const uint64_t specifics[32], const uint64_t generals[32])
+{
+    for (int g = 0; g < 32; g++) {
+        if (specifics[g] != 0 || generals[g] != 0)
+            printf("currency %d specific %" PRIu64 " general %" PRIu64 "\n", g, specifics[g], generals[g]);
+    }
+}
+
 static void print_report(const char *name, const uint8_t *book, size_t len)
 {
     static const char *const figures[7] = {
         "interest-specific", "interest-general", "equity-specific", "equity-general",
         "fx", "commodity", "total",
     };
-    uint64_t out[11];
+    uint64_t out[75];
 
     market_risk_charge(book, len, out);
     printf("%s\n", name);
@@ -51,6 +70,7 @@ static void print_report(const char *name, const uint8_t *book, size_t len)
             printf("%s %" PRIu64 "\n", figures[i], out[3 + i]);
     }
     printf("taken %" PRIu64 "\n", out[10]);
+    print_currencies(out + 11, out + 43);
 }
 
 int main(void)
@@ -62,6 +82,7 @@ int main(void)
     print_report("equity book", equity, sizeof equity);
     print_report("zones book", zones, sizeof zones);
     print_report("book of four classes", classes, sizeof classes);
+    print_report("book of two currencies", currencies, sizeof currencies);
     print_report("equity book without its last byte", equity, sizeof equity - 1);
     print_report("book of four classes, its last row bad", spoiled, sizeof spoiled);
     return 0;

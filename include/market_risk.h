@@ -19,7 +19,7 @@
  * recurses, so no book makes it more.
  *
  *     market_risk_check              200
- *     market_risk_charge           15000
+ *     market_risk_charge           16000
  *     market_risk_interest_ladder    800
  *     market_risk_commodity_ladder   600
  *     market_risk_join               500
@@ -43,9 +43,12 @@ void market_risk_check(const uint8_t *book, size_t len, uint64_t out[3]);
 
 /* The report of a book.
  * out: number, row, book; interest specific, interest general, equity specific,
- * equity general, foreign exchange, commodity; total; taken. Taken is how many rows were
- * taken from the file: of an accepted book its number of rows, of a refused one 0. */
-void market_risk_charge(const uint8_t *book, size_t len, uint64_t out[11]);
+ * equity general, foreign exchange, commodity; total; taken; then 32 specific and 32
+ * general charges. Taken is how many rows were taken from the file: of an accepted book its
+ * number of rows, of a refused one 0. Entry 11 + g is the interest specific charge and entry
+ * 43 + g the interest general charge of currency g's interest rows alone, g from 0 to 31:
+ * entries 11 to 42 sum to entry 3, and entries 43 to 74 to entry 4. */
+void market_risk_charge(const uint8_t *book, size_t len, uint64_t out[75]);
 
 /* The interest ladder of one currency, group 0 to 31; a greater group is refused with 10.
  * out: number, row, book; gross; the match sums: vertical, zones 1, 2, 3, 1-2, 2-3, 1-3;

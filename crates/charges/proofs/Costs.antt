@@ -1,15 +1,17 @@
 -- What the tables of an accepted book cost is what its rows cost, and no sum of it is too large.
 -- Assumes nothing.
 use mathlib.Core.Path.{_≡_, refl, sym, ap, _∙_, fun-ext}
-use mathlib.Core.List.{List}
+use mathlib.Core.List.{List, map}
 use Prim.Native.Nat.{ℕ, _+_, _*_, _≤_, _<_}
 use native.Mathlib.Omega.{arith}
 use lib.ListN.{length, getD, replicate, length-map, length-replicate}
 use Rattle.sums.specs.Sums.{sumOf, sumAt, span}
 use Rattle.sums.specs.Every.{Every}
 use Rattle.sums.proofs.Every.{every-implied, mapped-every}
+use Rattle.sums.proofs.Sums.{sumOf-map}
 use Rattle.sums.proofs.Spans.{sum-same, slots-all}
 use Rattle.sums.proofs.Tables.{length-tally}
+use Rattle.sums.proofs.Filling.{listed-same}
 use Rattle.book.specs.declared.Row.{Row}
 use Rattle.book.specs.Counts.{countsOf, countIn}
 use Rattle.book.specs.Rows.{rowsOf, decode}
@@ -31,12 +33,13 @@ use Rattle.ladder.proofs.Agreeing.{Agree, gross-agree, absolutes-agree, shortha
 use Rattle.ladder.proofs.Bounds.{positionsBy-within, ladders-within}
 use Rattle.charges.specs.Bands.{bandIn}
 use Rattle.charges.specs.Charges.{eightPerCent, groups, currencies, reading, specificOf, specificCharge}
-use Rattle.charges.specs.Charges.{interestGeneral, equityGeneral, exchangeGeneral, commodityGeneral}
+use Rattle.charges.specs.Charges.{interestGeneral, equityGeneral, exchangeGeneral, commodityGeneral, byCurrency}
 use Rattle.charges.specs.Report.{classRows}
 use Rattle.charges.specs.Inner.Slots.{groupCount, equityFirst, exchangeFirst, slotCount, slotAt, legSlot, legLong, legShort, legCounted, LegSums}
 use Rattle.charges.specs.Inner.Tables.{mostGross, bandsFrom, grossFrom, weightedFrom, currencyAt, commodityAt}
-use Rattle.charges.proofs.Legs.{amounts, amounts-within, specific-within}
+use Rattle.charges.proofs.Legs.{amounts, amounts-within}
 use Rattle.charges.proofs.Rates.{groups-rate}
+use Rattle.charges.proofs.Currencies.{alone-specific, alone-general}
 use Rattle.charges.proofs.Places.{bandsIn, Placed}
 use Rattle.charges.proofs.Figures.{interest-from, commodity-from}
 use Rattle.charges.proofs.Sorting.{Holds, holds, none-counted}
@@ -56,14 +59,9 @@ module _ (s : List ℕ) (ok : Accepted s) where
     amounts-most : amounts (classRows s class) ≤ mostGross
     amounts-most = omega (arith, amounts-within class rows-clean, rows-many, before-within (countsOf s) class, ok .few)
 
-    -- the specific charges of the groups are that of the rows
-    specific-groups : sumOf (λ g. sumAt (λ row. row .group) (specificOf class) g (classRows s class)) groups ≡ specificCharge class (classRows s class)
-    unfolding specificCharge
-    specific-groups = slots-all (λ row. row .group) (specificOf class) groupCount (every-implied (λ row clean. omega (arith, clean .group)) rows-clean)
-
-    specific-most : specificCharge class (classRows s class) ≤ eightPerCent * mostGross
-    unfolding specificCharge
-    specific-most = omega (arith, specific-within class (classRows s class), amounts-most)
+    -- each row is of one of the 32 groups
+    pub rows-grouped : Every (λ row. row .group < groupCount) (classRows s class)
+    rows-grouped = every-implied (λ row clean. omega (arith, clean .group)) rows-clean
 
 -- ---- tables that agree with the ladders of a class
 module _ (class n : ℕ) (rows : List Row) (table : ℕ → Bands) (agree : (g : ℕ) → g < groupCount → Agree n (table g) (ladderOf (reading class) g rows)) where
@@ -97,14 +95,12 @@ pub record Costs (table : Table) (s longs shorts specifics rows : List ℕ) : Ty
   pub commodity-unused : (g : ℕ) → g < groupCount → getD rows (96 + g) 0 ≡ 0 → grossFrom commodityBandCount longs shorts (commodityAt g) ≡ 0
   pub equity-fits : grossFrom groupCount longs shorts equityFirst ≤ mostGross
   pub exchange-fits : grossFrom groupCount longs shorts exchangeFirst ≤ mostGross
-  pub interest-specific-fits : sumOf (λ g. getD specifics (0 + g) 0) groups ≤ eightPerCent * mostGross
-  pub equity-specific-fits : sumOf (λ g. getD specifics (32 + g) 0) groups ≤ eightPerCent * mostGross
-  pub interest-is : sumOf (λ g. interestFigures (table .percents) (weightedFrom table longs shorts (currencyAt g)) .charge) groups ≡ interestGeneral table (classRows s 1)
+  pub specifics-are : map (λ g. getD specifics (0 + g) 0) groups ≡ byCurrency (specificCharge 1) (classRows s 1)
+  pub generals-are : map (λ g. interestFigures (table .percents) (weightedFrom table longs shorts (currencyAt g)) .charge) groups ≡ byCurrency (interestGeneral table) (classRows s 1)
   pub commodity-is : sumOf (λ g. commodityFigures (bandsFrom longs shorts (commodityAt g)) .charge) groups ≡ commodityGeneral (classRows s 4)
   pub equity-is : eightPerCent * absoluteNets groups (bandsFrom longs shorts equityFirst) ≡ equityGeneral (classRows s 2)
   pub exchange-is : eightPerCent * shorthand currencies (bandsFrom longs shorts exchangeFirst) ≡ exchangeGeneral (classRows s 3)
-  pub interest-specific-is : sumOf (λ g. getD specifics (0 + g) 0) groups ≡ specificCharge 1 (classRows s 1)
-  pub equity-specific-is : sumOf (λ g. getD specifics (32 + g) 0) groups ≡ specificCharge 2 (classRows s 2)
+  pub equity-specific-is : sumOf (λ entry. entry) (map (λ g. getD specifics (32 + g) 0) groups) ≡ specificCharge 2 (classRows s 2)
 
 module _ (table : Table) (s longs shorts specifics rows : List ℕ) (ok : Accepted s) (sums : LegSums (legsOf s) longs shorts specifics rows) where
   at : (class g : ℕ) → 1 ≤ class → class ≤ 4 → g < groupCount → Holds (legsOf s) class g longs shorts specifics rows
@@ -136,14 +132,8 @@ module _ (table : Table) (s longs shorts specifics rows : List ℕ) (ok : Accept
             same-position (held .long 0 (omega arith) ∙ flat-sum 3 (λ row. refl) (λ row. row .long) g _) (held .short 0 (omega arith) ∙ flat-sum 3 (λ row. refl) (λ row. row .short) g _);
       }
 
-  specific-one : sumOf (λ g. getD specifics (0 + g) 0) groups ≡ specificCharge 1 (classRows s 1)
-  specific-one = sum-same _ _ groupCount (λ g h. at 1 g (omega arith) (omega arith) h .specific) ∙ specific-groups s ok 1 (omega arith) (omega arith)
-
-  specific-two : sumOf (λ g. getD specifics (32 + g) 0) groups ≡ specificCharge 2 (classRows s 2)
-  specific-two = sum-same _ _ groupCount (λ g h. at 2 g (omega arith) (omega arith) h .specific) ∙ specific-groups s ok 2 (omega arith) (omega arith)
-
   pub costs : Costs table s longs shorts specifics rows
-  unfolding interestGeneral commodityGeneral equityGeneral exchangeGeneral legCounted
+  unfolding specificCharge commodityGeneral equityGeneral exchangeGeneral legCounted byCurrency
   costs =
       record {
         longs-sized = rw (sums .is-longs) (length-tally legSlot legLong (replicate slotCount 0) (legsOf s) ∙ length-replicate {A = ℕ} slotCount 0);
@@ -156,12 +146,15 @@ module _ (table : Table) (s longs shorts specifics rows : List ℕ) (ok : Accept
             (none-counted 4 g (classRows s 4) (λ row. refl) (sym (at 4 g (omega arith) (omega arith) h .counted) ∙ none));
         equity-fits = omega (arith, gross-agree equity-agree, groups-rate 2 (classRows s 2), amounts-most s ok 2 (omega arith) (omega arith));
         exchange-fits = omega (arith, gross-agree exchange-agree, groups-rate 3 (classRows s 3), amounts-most s ok 3 (omega arith) (omega arith));
-        interest-specific-fits = omega (arith, specific-one, specific-most s ok 1 (omega arith) (omega arith));
-        equity-specific-fits = omega (arith, specific-two, specific-most s ok 2 (omega arith) (omega arith));
-        interest-is = sum-same _ _ groupCount (λ g h. ap (λ figures. figures .charge) (interest-from longs shorts (currencyAt g) g (classRows s 1) table (currency-agree g h)));
+        specifics-are = listed-same _ _ groupCount (λ g h. at 1 g (omega arith) (omega arith) h .specific ∙ sym (alone-specific g (classRows s 1)));
+        generals-are = listed-same _ _ groupCount
+            (λ g h.
+            ap (λ figures. figures .charge) (interest-from longs shorts (currencyAt g) g (classRows s 1) table (currency-agree g h))
+            ∙ sym (alone-general table g (classRows s 1) h));
         commodity-is = sum-same _ _ groupCount (λ g h. ap (λ figures. figures .charge) (commodity-from longs shorts (commodityAt g) g (classRows s 4) (commodity-agrees g h)));
         equity-is = ap (λ (n : ℕ). eightPerCent * n) (absolutes-agree equity-agree);
         exchange-is = ap (λ (n : ℕ). eightPerCent * n) (shorthand-agree exchange-agree);
-        interest-specific-is = specific-one;
-        equity-specific-is = specific-two;
+        equity-specific-is = sumOf-map (λ entry. entry) _ groups
+            ∙ sum-same _ _ groupCount (λ g h. at 2 g (omega arith) (omega arith) h .specific)
+            ∙ slots-all (λ row. row .group) (specificOf 2) groupCount (rows-grouped s ok 2 (omega arith) (omega arith));
       }

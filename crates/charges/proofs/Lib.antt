@@ -8,6 +8,7 @@ pub mod Progress
 pub mod Sorting
 pub mod Tallying
 pub mod Rates
+pub mod Currencies
 pub mod Figures
 pub mod Costs
 pub mod Reporting

@@ -1,8 +1,8 @@
--- Groups that are listed where they are counted: what a list of them sums to, and a sum that a loop makes over the front of a list.
+-- Groups that are listed where they are counted: what a list of them sums to, and a sum, or a table, that a loop makes over the front of a list.
 -- Assumes nothing.
 use mathlib.Core.Path.{_≡_, refl, ap, _∙_}
 use mathlib.Core.Bool.{Bool, true, false, cond, not}
-use mathlib.Core.List.{List, [], _∷_, _++_, append-nil}
+use mathlib.Core.List.{List, [], _∷_, _++_, map, append-nil}
 use Prim.Native.Nat.{ℕ, zero, suc, _+_, _-_, _*_, _≤_, _<_}
 use native.Mathlib.Decide.{ℕ-discrete}
 use native.Mathlib.Nat.{zero-add, add-zero, mul-zero, mul-le-mul-left}
@@ -11,16 +11,21 @@ use native.Mathlib.Omega.{arith}
 use mir.Val.{boolByte}
 use borrow.Author.Tests.{eqb-true, eq-eqb, ne-eqb}
 use lib.Dec.{eqb}
-use lib.ListN.{length, take, drop, getD, set, length-set}
+use lib.ListN.{length, take, drop, getD, set, replicate, length-set, length-replicate}
 use lib.Seq.{take-suc, take-set-le, take-suc-set, take-add, getD-take, length-take-le}
 use Rattle.sums.specs.Sums.{sumOf, span}
 use Rattle.sums.specs.Every.{Every, none, also}
-use Rattle.sums.proofs.Sums.{sumOf-append, sumOf-rate}
-use Rattle.sums.proofs.Spans.{span-last, Rated}
+use Rattle.sums.specs.Inner.Tables.{tally}
+use Rattle.sums.proofs.Sums.{sumOf-append, sumOf-rate, sumAt≤}
+use Rattle.sums.proofs.Cases.{cond-same}
+use Rattle.sums.proofs.Spans.{span-last, sum-at, Rated}
+use Rattle.sums.proofs.Tables.{length-tally, tallied}
 use Rattle.sums.proofs.Every.{every-implied, every-at}
+use Rattle.sums.proofs.Filling.{listed-array}
 use Rattle.charges.specs.Charges.{groups}
 use Rattle.charges.specs.Inner.Slots.{groupCount}
 use Rattle.charges.specs.Inner.Tables.{Used, countedGroups, UsedOf}
+use Rattle.charges.proofs.Tallying.{table-next}
 
 -- ---- the counted groups of a list
 module _ (count : ℕ → ℕ) where
@@ -150,16 +155,61 @@ front-all cost list many sum i all done =
     let end : i ≡ many = omega (arith, all .reached) in
     all .is-sum ∙ ap (λ (n : ℕ). sumOf cost (take n list)) end
 
+-- ---- a table of n sums to which a loop has added the costs of the first i of the front of a list, each at its own number
+pub record FrontTable (n : ℕ) (cost : ℕ → ℕ) (list : List ℕ) (many : ℕ) (table : List ℕ) (i : ℕ) : Type 0 where
+  pub reached : i ≤ many
+  pub is-table : table ≡ tally (λ g. g) cost (replicate n 0) (take i list)
+
+pub fronted-none : (n : ℕ) (cost : ℕ → ℕ) (list : List ℕ) (many : ℕ) → FrontTable n cost list many (replicate n 0) 0
+fronted-none n cost list many = record { reached = omega arith; is-table = refl }
+
+module _ (n : ℕ) (cost : ℕ → ℕ) (list : List ℕ) (many : ℕ) (table : List ℕ) (i one : ℕ) (before : FrontTable n cost list many table i) (h : i < many) (sized : many ≤ length list)
+    (is : one ≡ cost (getD list i 0)) where
+  pub fronted-next : FrontTable n cost list many (set table (getD list i 0) (getD table (getD list i 0) 0 + one)) (i + 1)
+  fronted-next =
+      record {
+        reached = omega arith;
+        is-table =
+            ap (λ (more : ℕ). set table (getD list i 0) (getD table (getD list i 0) 0 + more)) is
+            ∙ table-next (λ g. g) cost n list i 0 (getD list i 0) (omega (arith, sized)) refl table (before .is-table);
+      }
+
+  pub fronted-room : getD list i 0 < n → getD table (getD list i 0) 0 + one ≤ sumOf cost (take many list)
+  fronted-room below =
+      omega (
+        arith,
+        ap (λ (t : List ℕ). getD t (getD list i 0) 0) (before .is-table) ∙ tallied (λ g. g) cost n (take i list) (getD list i 0) below,
+        sumAt≤ (λ g. g) cost (getD list i 0) (take i list),
+        front-room cost list many (sumOf cost (take i list)) i one (record { reached = before .reached; is-sum = refl }) h sized is,
+      )
+
 -- ---- the groups that are used cost what all groups cost, where a group that is not counted has no size
 module _ (cost size : ℕ → ℕ) (rate bound : ℕ) (rated : Rated cost size rate bound groupCount) (count : ℕ → ℕ) (used : Used) (of : UsedOf count used)
     (free : (g : ℕ) → g < groupCount → count g ≡ 0 → size g ≡ 0) where
+  -- a group that is not counted costs nothing
+  no-cost : Every (λ g. count g ≡ 0 → cost g ≡ 0) groups
+  no-cost = every-implied (λ g h e. omega (arith, rw (free g h e) at (rated .each g), mul-zero rate)) (span-below 0 groupCount)
+
   pub used-sum : sumOf cost (take (used .many) (used .list)) ≡ sumOf cost groups
-  used-sum =
-      ap (sumOf cost) (of .is)
-      ∙ counted-sum count cost (every-implied (λ g h e. omega (arith, rw (free g h e) at (rated .each g), mul-zero rate)) (span-below 0 groupCount))
+  used-sum = ap (sumOf cost) (of .is) ∙ counted-sum count cost no-cost
 
   pub used-within : sumOf cost (take (used .many) (used .list)) ≤ rate * bound
   used-within = omega (arith, used-sum, sumOf-rate rate cost size groups (rated .each), mul-le-mul-left rate (rated .whole))
+
+  -- and the table of their costs has those of all groups
+  pub used-table : (table : List ℕ) (i : ℕ) → FrontTable groupCount cost (used .list) (used .many) table i → used .many ≤ i → table ≡ map cost groups
+  used-table table i all done =
+      let end : i ≡ used .many = omega (arith, all .reached) in
+      let list = countedGroups count groups in
+      let is : table ≡ tally (λ g. g) cost (replicate groupCount 0) list =
+      all .is-table ∙ ap (λ (m : ℕ). tally (λ g. g) cost (replicate groupCount 0) (take m (used .list))) end ∙ ap (tally (λ g. g) cost (replicate groupCount 0)) (of .is) in
+      rw is (listed-array cost groupCount _ (length-tally (λ g. g) cost (replicate groupCount 0) list ∙ length-replicate {A = ℕ} groupCount 0) (record { below = at }))
+    where
+      at : (k : ℕ) → k < groupCount → getD (tally (λ g. g) cost (replicate groupCount 0) (countedGroups count groups)) k 0 ≡ cost k
+      at k h =
+          tallied (λ g. g) cost groupCount (countedGroups count groups) k h
+          ∙ counted-sum count (λ g. cond (eqb g k) (cost g) 0) (every-implied (λ g none e. rw (none e) (cond-same (eqb g k) 0)) no-cost)
+          ∙ sum-at cost groupCount k h
 
 -- each of them is a group
 pub used-group : (count : ℕ → ℕ) (used : Used) → UsedOf count used → (i : ℕ) → i < used .many → used .many ≤ length (used .list) → getD (used .list) i 0 < groupCount

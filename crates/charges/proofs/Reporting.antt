@@ -1,14 +1,15 @@
 -- From what a pass took, or what was read of a book, to the answers of the calls: the report, and the figures of a ladder.
 -- Assumes nothing.
 use mathlib.Core.Path.{_≡_, sym, ap, subst, _∙_}
-use mathlib.Core.Bool.{cond}
+use mathlib.Core.Bool.{Bool, true, false, cond}
 use mathlib.Core.List.{List}
 use Prim.Native.Nat.{ℕ, _+_, _≤_, _<_}
 use native.Mathlib.Omega.{arith}
 use lib.Dec.{eqb}
-use lib.ListN.{length}
+use lib.ListN.{length, length-replicate}
 use lib.Seq.{take-all}
 use borrow.Author.Tests.{lt-ltb, le-ltb, eq-eqb, ne-eqb}
+use Rattle.sums.specs.Sums.{sumOf}
 use Rattle.sums.proofs.Cases.{either}
 use Rattle.book.specs.declared.Row.{Row}
 use Rattle.book.specs.declared.Refusal.{Refusal}
@@ -21,15 +22,16 @@ use Rattle.book.specs.Accepted.{Accepted}
 use Rattle.book.specs.Inner.Reading.{noCounts, checkedWith, checkedOf, partRows, ReadOf}
 use Rattle.book.specs.Parts.{accepts, partOf}
 use Rattle.ladder.specs.Table.{Table, AcceptedTable}
-use Rattle.charges.specs.Charges.{specificCharge, interestGeneral, equityGeneral, exchangeGeneral, commodityGeneral, interestRisk, equityRisk}
-use Rattle.charges.specs.Report.{Report, classRows, reportWith, refusedReport, reportOf, ladderRefusal}
-use Rattle.charges.specs.Inner.Slots.{LegSums}
+use Rattle.charges.specs.Charges.{specificCharge, interestGeneral, equityGeneral, exchangeGeneral, commodityGeneral, interestRisk, equityRisk, byCurrency}
+use Rattle.charges.specs.Report.{Report, classRows, reportWith, refusedReport, chargedReport, reportOf, ladderRefusal}
+use Rattle.charges.specs.Inner.Slots.{groupCount, LegSums}
 use Rattle.charges.specs.Inner.Pass.{Taken, takenOf, passed}
 use Rattle.charges.specs.Inner.Ladders.{CleanPart}
 use Rattle.charges.specs.Inner.Answers.{mostTotal, ladderChecked, LadderRead}
 use Rattle.charges.proofs.Legs.{amounts-within, specific-within}
 use Rattle.charges.proofs.Rates.{interest-rate, equity-rate, exchange-rate, commodity-rate}
-use Rattle.charges.proofs.Costs.{rows-clean, rows-many}
+use Rattle.charges.proofs.Currencies.{specifics-sum, generals-sum, currencies-many, currency-sum}
+use Rattle.charges.proofs.Costs.{rows-clean, rows-many, rows-grouped}
 
 -- ---- the report
 -- no total is over 280,000 mils for each unit of 4,000 rows of the largest amount
@@ -56,6 +58,34 @@ total-fits table ok s of =
       exchange-rate (classRows s 3),
       commodity-rate (classRows s 4),
     )
+
+-- the interest charges of a book by currency
+pub record Lists (table : Table) (s specifics generals : List ℕ) : Type 0 where
+  pub specifics-are : specifics ≡ byCurrency (specificCharge 1) (classRows s 1)
+  pub generals-are : generals ≡ byCurrency (interestGeneral table) (classRows s 1)
+
+-- each comes to the charge that it splits
+module _ (table : Table) (s specifics generals : List ℕ) (of : Accepted s) (lists : Lists table s specifics generals) where
+  pub specifics-total : sumOf (λ entry. entry) specifics ≡ specificCharge 1 (classRows s 1)
+  specifics-total =
+      rw (lists .specifics-are) (currency-sum (specificCharge 1) (classRows s 1) ∙ specifics-sum (rows-grouped s of 1 (omega arith) (omega arith)))
+
+  pub generals-total : sumOf (λ entry. entry) generals ≡ interestGeneral table (classRows s 1)
+  generals-total = rw (lists .generals-are) (currency-sum (interestGeneral table) (classRows s 1) ∙ generals-sum table (classRows s 1))
+
+-- of any bytes each list has an entry for each currency
+pub record ListsSized (report : Report) : Type 0 where
+  pub specifics-many : length (report .specifics) ≡ groupCount
+  pub generals-many : length (report .generals) ≡ groupCount
+
+pub lists-sized : (table : Table) (s : List ℕ) → ListsSized (reportOf table s)
+unfolding reportOf chargedReport reportWith refusedReport
+lists-sized table s = go (accepts s)
+  where
+    go : (test : Bool) → ListsSized (cond test (chargedReport table s) (refusedReport (refusalOf s)))
+    go true =
+        record { specifics-many = currencies-many (specificCharge 1) (classRows s 1); generals-many = currencies-many (interestGeneral table) (classRows s 1) }
+    go false = record { specifics-many = length-replicate {A = ℕ} groupCount 0; generals-many = length-replicate {A = ℕ} groupCount 0 }
 
 -- the six charges of a book
 pub record Six (table : Table) (s : List ℕ) (p g q h x y : ℕ) : Type 0 where
@@ -96,10 +126,23 @@ module _ (table : Table) (s : List ℕ) (taken : Taken) (is : taken ≡ takenOf 
       pub six-fit : AcceptedTable table → Accepted s → p + g + q + h + x + y ≤ mostTotal
       six-fit ok of = omega (arith, total-fits table ok s of, six .interest-specific, six .interest-general, six .equity-specific, six .equity-general, six .exchange, six .commodity)
 
-      pub report-charged : (report : Report) → report ≡ reportWith (record { specific = p; general = g }) (record { specific = q; general = h }) x y (taken .rows) → report ≡ reportOf table s
-      unfolding reportOf accepts interestRisk equityRisk
-      report-charged report r =
-          r ∙ simp (eq-eqb _ _ none-refused) (rw (six .interest-specific, six .interest-general, six .equity-specific, six .equity-general, six .exchange, six .commodity, taken-all))
+      pub report-charged : (specifics generals : List ℕ) → Lists table s specifics generals
+          → (report : Report) → report ≡ reportWith (record { specific = p; general = g }) (record { specific = q; general = h }) x y (taken .rows) specifics generals → report ≡ reportOf table s
+      unfolding reportOf chargedReport accepts interestRisk equityRisk
+      report-charged specifics generals lists report r =
+          r
+          ∙ simp (eq-eqb _ _ none-refused)
+          (rw (
+            six .interest-specific,
+            six .interest-general,
+            six .equity-specific,
+            six .equity-general,
+            six .exchange,
+            six .commodity,
+            taken-all,
+            lists .specifics-are,
+            lists .generals-are,
+          ))
 
 -- ---- a part that was read
 -- no class has more rows than all

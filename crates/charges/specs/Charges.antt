@@ -1,6 +1,7 @@
 -- The six charges over lists of rows, in mils; those of interest by a table of weights and per cents.
 use Prim.Native.Nat.{ℕ, _+_, _*_}
-use mathlib.Core.List.{List}
+use mathlib.Core.List.{List, map, filter}
+use native.Mathlib.Decide.{ℕ-discrete}
 use Rattle.sums.specs.Sums.{sumOf, span}
 use Rattle.book.specs.declared.Row.{Row}
 use Rattle.book.specs.Refusals.{lastGroup}
@@ -71,3 +72,12 @@ interestRisk table rows = record { specific = specificCharge 1 rows; general = i
 
 unfoldable pub equityRisk : List Row → Risk
 equityRisk rows = record { specific = specificCharge 2 rows; general = equityGeneral rows }
+
+-- ---- by currency
+-- the rows of one group alone (P6)
+unfoldable pub ofGroup : ℕ → List Row → List Row
+ofGroup group rows = filter (λ row. ℕ-discrete (row .group) group) rows
+
+-- a charge of each currency's rows alone, from currency 0 on (P6)
+unfoldable pub byCurrency : (List Row → ℕ) → List Row → List ℕ
+byCurrency charge rows = map (λ currency. charge (ofGroup currency rows)) groups

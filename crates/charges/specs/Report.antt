@@ -3,7 +3,7 @@ use Prim.Native.Nat.{ℕ, _+_}
 use mathlib.Core.Bool.{cond}
 use mathlib.Core.List.{List}
 use lib.Dec.{ltb, eqb}
-use lib.ListN.{length}
+use lib.ListN.{length, replicate}
 use Rattle.book.specs.declared.Row.{Row}
 use Rattle.book.specs.declared.Refusal.{Refusal}
 use Rattle.book.specs.Legs.{legsOf, ofClass}
@@ -13,7 +13,7 @@ use Rattle.ladder.specs.declared.InterestFigures.{InterestFigures}
 use Rattle.ladder.specs.declared.CommodityFigures.{CommodityFigures}
 use Rattle.ladder.specs.declared.zones.Matches.{Matches}
 use Rattle.ladder.specs.Table.{Table}
-use Rattle.charges.specs.Charges.{Risk, interestFiguresOf, commodityFiguresOf, interestRisk, equityRisk, exchangeGeneral, commodityGeneral}
+use Rattle.charges.specs.Charges.{Risk, specificCharge, interestGeneral, interestFiguresOf, commodityFiguresOf, interestRisk, equityRisk, exchangeGeneral, commodityGeneral, byCurrency}
 pub use Rattle.charges.specs.declared.Report.{Report}
 pub use Rattle.charges.specs.declared.InterestLadder.{InterestLadder}
 pub use Rattle.charges.specs.declared.CommodityLadder.{CommodityLadder}
@@ -23,9 +23,9 @@ abbrev pub classRows : List ℕ → ℕ → List Row
 classRows s class = ofClass class (legsOf s)
 
 -- ---- the report
--- six charges: their sum is the total (document 01, The book file); and how many rows were taken for them (P4)
-unfoldable pub reportWith : (interest equity : Risk) (exchange commodity taken : ℕ) → Report
-reportWith interest equity exchange commodity taken =
+-- six charges: their sum is the total (document 01, The book file); how many rows were taken for them (P4); and the interest charges by currency (P6)
+unfoldable pub reportWith : (interest equity : Risk) (exchange commodity taken : ℕ) (specifics generals : List ℕ) → Report
+reportWith interest equity exchange commodity taken specifics generals =
     record {
       refusal = refused 0 0;
       interest = interest;
@@ -34,22 +34,46 @@ reportWith interest equity exchange commodity taken =
       commodity = commodity;
       total = interest .specific + interest .general + equity .specific + equity .general + exchange + commodity;
       taken = taken;
+      specifics = specifics;
+      generals = generals;
     }
 
--- no charge and no row (document 01, Who is told no, and why; P4)
+-- no charge, also of any currency, and no row (document 01, Who is told no, and why; P4; P6)
 abbrev pub noRisk : Risk
 noRisk = record { specific = 0; general = 0 }
 
+abbrev pub noCurrency : List ℕ
+noCurrency = replicate (lastGroup + 1) 0
+
 unfoldable pub refusedReport : Refusal → Report
 refusedReport refusal =
-    record { refusal = refusal; interest = noRisk; equity = noRisk; exchange = 0; commodity = 0; total = 0; taken = 0 }
+    record {
+      refusal = refusal;
+      interest = noRisk;
+      equity = noRisk;
+      exchange = 0;
+      commodity = 0;
+      total = 0;
+      taken = 0;
+      specifics = noCurrency;
+      generals = noCurrency;
+    }
 
--- the report of any bytes, by a table; each row of an accepted book is taken (document 01, The book file; Who is told no, and why; P4)
+-- the report of an accepted book, by a table: each of its rows is taken (document 01, The book file; P4; P6)
+unfoldable pub chargedReport : Table → List ℕ → Report
+chargedReport table s =
+    reportWith
+    (interestRisk table (classRows s 1))
+    (equityRisk (classRows s 2))
+    (exchangeGeneral (classRows s 3))
+    (commodityGeneral (classRows s 4))
+    (length (legsOf s))
+    (byCurrency (specificCharge 1) (classRows s 1))
+    (byCurrency (interestGeneral table) (classRows s 1))
+
+-- the report of any bytes (document 01, Who is told no, and why)
 unfoldable pub reportOf : Table → List ℕ → Report
-reportOf table s =
-    cond (accepts s)
-    (reportWith (interestRisk table (classRows s 1)) (equityRisk (classRows s 2)) (exchangeGeneral (classRows s 3)) (commodityGeneral (classRows s 4)) (length (legsOf s)))
-    (refusedReport (refusalOf s))
+reportOf table s = cond (accepts s) (chargedReport table s) (refusedReport (refusalOf s))
 
 -- ---- the ladder calls
 -- 10 before the book is looked at, then the book's refusal (document 01, Who is told no, and why)

@@ -12,6 +12,7 @@ use ladder::CommodityFigures;
 use ladder::InterestFigures;
 use ladder::Percents;
 ghost use mathlib.Core.Path.{_≡_};
+ghost use mathlib.Core.List.{map};
 ghost use Prim.Native.Nat.{ℕ, _+_, _*_, _<_, _≤_};
 ghost use lib.ListN.{length, getD};
 ghost use Rattle.sums.specs.Sums.{sumOf};
@@ -51,27 +52,28 @@ pub fn interest_figures(longs: &[u64], shorts: &[u64], first: usize) -> Interest
     ladder::interest(&weighted_longs, &weighted_shorts, percents())
 }
 
-// The interest ladders of all currencies; one without rows costs nothing and is passed over.
-pub fn interest_general(
+// The charge of each currency's ladder; one without rows costs nothing and is passed over.
+pub fn interest_generals(
     longs: &[u64; SLOTS],
     shorts: &[u64; SLOTS],
     rows: &[u16; GROUP_SLOTS],
-) -> u64
+) -> [u64; GROUPS]
     requires { ⌜ (length (now longs) ≡ slotCount) × (length (now shorts) ≡ slotCount) ⌝ }
     requires { ⌜ sumOf (λ group. grossFrom bandCount (now longs) (now shorts) (currencyAt group)) groups ≤ mostGross ⌝ }
     requires { ⌜ ((group : ℕ) → group < groupCount → getD (now rows) (0 + group) 0 ≡ 0 → grossFrom bandCount (now longs) (now shorts) (currencyAt group) ≡ 0) ⌝ }
-    ensures { λ r. ⌜ r ≡ sumOf (λ group. interestFigures (standardTable .percents) (weightedFrom standardTable (now (longs .entry)) (now (shorts .entry)) (currencyAt group)) .charge) groups ⌝ }
+    ensures { λ r. ⌜ r ≡ map (λ group. interestFigures (standardTable .percents) (weightedFrom standardTable (now (longs .entry)) (now (shorts .entry)) (currencyAt group)) .charge) groups ⌝ }
 {
     let used = tables::used_groups(rows, 0);
     let list = used.list;
     let many = used.many;
-    let mut charge: u64 = 0;
+    let mut charges = [0u64; GROUPS];
     let mut i: usize = 0;
     while i < many {
-        charge += interest_figures(longs, shorts, BANDS * list[i]).charge;
+        let group = list[i];
+        charges[group] += interest_figures(longs, shorts, BANDS * group).charge;
         i += 1;
     }
-    charge
+    charges
 }
 
 // The ladder of a commodity, from its first slot on.

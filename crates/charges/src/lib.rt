@@ -29,7 +29,8 @@ pub struct Risk {
     pub general: u64,
 }
 
-// The report of a book, in mils, and how many rows were taken for it; all zero but the refusal where it is refused.
+// The report of a book, in mils, how many rows were taken for it, and the specific and the general interest charge of each currency; all zero
+// but the refusal where it is refused.
 pub struct Report {
     pub refusal: Refusal,
     pub interest: Risk,
@@ -38,6 +39,8 @@ pub struct Report {
     pub commodity: u64,
     pub total: u64,
     pub taken: usize,
+    pub specifics: [u64; GROUPS],
+    pub generals: [u64; GROUPS],
 }
 
 // The interest ladder of one currency, in weighted positions, and its charge in mils.
@@ -65,17 +68,28 @@ pub fn charge(book: &[u8]) -> Report
     if refused.number != 0 {
         return refused_report(refused);
     }
+    let interest_specifics = tables::group_list(&specifics, 0);
+    let interest_generals = general::interest_generals(&longs, &shorts, &rows);
+    let equity_specifics = tables::group_list(&specifics, GROUPS);
     let interest = Risk {
-        specific: tables::group_total(&specifics, 0),
-        general: general::interest_general(&longs, &shorts, &rows),
+        specific: tables::group_total(interest_specifics),
+        general: tables::group_total(interest_generals),
     };
     let equity = Risk {
-        specific: tables::group_total(&specifics, GROUPS),
+        specific: tables::group_total(equity_specifics),
         general: general::equity_general(&longs, &shorts),
     };
     let exchange = general::exchange_general(&longs, &shorts);
     let commodity = general::commodity_general(&longs, &shorts, &rows);
-    charged_report(interest, equity, exchange, commodity, taken.rows)
+    charged_report(
+        interest,
+        equity,
+        exchange,
+        commodity,
+        taken.rows,
+        interest_specifics,
+        interest_generals,
+    )
 }
 
 fn charged_report(
@@ -84,9 +98,11 @@ fn charged_report(
     exchange: u64,
     commodity: u64,
     taken: usize,
+    specifics: [u64; GROUPS],
+    generals: [u64; GROUPS],
 ) -> Report
     requires { ⌜ interest .specific + interest .general + equity .specific + equity .general + exchange + commodity ≤ mostTotal ⌝ }
-    ensures { λ r. ⌜ r ≡ reportWith interest equity exchange commodity taken ⌝ }
+    ensures { λ r. ⌜ r ≡ reportWith interest equity exchange commodity taken specifics generals ⌝ }
 {
     let total = interest.specific
         + interest.general
@@ -102,6 +118,8 @@ fn charged_report(
         commodity,
         total,
         taken,
+        specifics,
+        generals,
     }
 }
 
@@ -120,6 +138,8 @@ fn refused_report(refusal: Refusal) -> Report
         commodity: 0,
         total: 0,
         taken: 0,
+        specifics: [0; GROUPS],
+        generals: [0; GROUPS],
     }
 }
 

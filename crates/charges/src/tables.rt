@@ -5,6 +5,7 @@ use crate::slots::GROUPS;
 use ladder::BANDS;
 use ladder::COMMODITY_BANDS;
 ghost use mathlib.Core.Path.{_≡_};
+ghost use mathlib.Core.List.{map};
 ghost use Prim.Native.Nat.{ℕ, _+_, _*_, _<_, _≤_};
 ghost use lib.ListN.{length, getD};
 ghost use Rattle.sums.specs.Sums.{sumOf};
@@ -12,9 +13,10 @@ ghost use Rattle.sums.specs.Inner.Tables.{Reads};
 ghost use Rattle.ladder.specs.Table.{standardTable, weightIn};
 ghost use Rattle.ladder.specs.Commodity.{commodityBandCount};
 ghost use Rattle.ladder.specs.Inner.Steps.{limit, bandCount};
-ghost use Rattle.charges.specs.Charges.{eightPerCent, groups};
+ghost use Rattle.charges.specs.Charges.{groups};
 ghost use Rattle.charges.specs.Inner.Slots.{groupCount, groupSlots};
-ghost use Rattle.charges.specs.Inner.Tables.{mostGross, UsedOf};
+ghost use Rattle.charges.specs.Inner.Tables.{UsedOf};
+ghost use Rattle.charges.specs.Inner.Answers.{mostTotal};
 
 // Some groups of a class, at the front of the list, and how many they are.
 pub struct Used {
@@ -68,15 +70,29 @@ pub fn used_groups(rows: &[u16; GROUP_SLOTS], first: usize) -> Used
     Used { list, many }
 }
 
-// What the groups of a class come to, from a slot on.
-pub fn group_total(table: &[u64; GROUP_SLOTS], first: usize) -> u64
-    requires { ⌜ (first + groupCount ≤ groupSlots) × (sumOf (λ group. getD (now table) (first + group) 0) groups ≤ eightPerCent * mostGross) ⌝ }
-    ensures { λ r. ⌜ r ≡ sumOf (λ group. getD (now (table .entry)) (first + group) 0) groups ⌝ }
+// The entries of the groups of a class, from a slot on.
+pub fn group_list(table: &[u64; GROUP_SLOTS], first: usize) -> [u64; GROUPS]
+    requires { ⌜ first + groupCount ≤ groupSlots ⌝ }
+    ensures { λ r. ⌜ r ≡ map (λ group. getD (now (table .entry)) (first + group) 0) groups ⌝ }
+{
+    let mut list = [0u64; GROUPS];
+    let mut group: usize = 0;
+    while group < GROUPS {
+        list[group] = table[first + group];
+        group += 1;
+    }
+    list
+}
+
+// What the entries of all groups come to.
+pub fn group_total(list: [u64; GROUPS]) -> u64
+    requires { ⌜ sumOf (λ entry. entry) list ≤ mostTotal ⌝ }
+    ensures { λ r. ⌜ r ≡ sumOf (λ entry. entry) list ⌝ }
 {
     let mut sum: u64 = 0;
     let mut group: usize = 0;
     while group < GROUPS {
-        sum += table[first + group];
+        sum += list[group];
         group += 1;
     }
     sum

@@ -1,8 +1,9 @@
--- The six charges of rows put together, permuted, and mirrored, for every accepted table.
+-- The six charges of rows put together, permuted, and mirrored, and those of each currency, for every accepted table.
 -- Assumes nothing.
-use Prim.Native.Nat.{ℕ, _+_, _*_, _≤_}
-use mathlib.Core.Path.{_≡_, refl, ap, _∙_}
-use mathlib.Core.List.{List, _++_, map, Perm, List·Memᴰ}
+use Prim.Native.Nat.{ℕ, _+_, _*_, _≤_, _<_}
+use mathlib.Core.Path.{_≡_, refl, ap, _∙_, fun-ext}
+use mathlib.Core.List.{List, _++_, map, filter-append, filter-map, Perm, Perm·filter, List·Memᴰ}
+use native.Mathlib.Decide.{ℕ-discrete}
 use native.Mathlib.Nat.{add-comm}
 use native.Mathlib.Omega.{arith}
 use Rattle.sums.proofs.Sums.{sumOf-append, sumOf-permuted, sumOf-map}
@@ -14,11 +15,13 @@ use Rattle.ladder.specs.Commodity.{commodityFigures}
 use Rattle.ladder.specs.Nets.{absoluteNets, shorthand}
 use Rattle.ladder.specs.Rows.{weighing, AtMostTwoZones}
 use Rattle.ladder.proofs.Netting.{absolutes-joined, absolutes-mirrored, shorthand-joined, shorthand-mirrored}
-use Rattle.ladder.proofs.Books.{Exchanges, general-joined, commodity-joined, nets-joined, grouped-permuted, groupsOf-permuted, general-mirrored, commodity-mirrored, nets-mirrored}
+use Rattle.ladder.proofs.Books.{Exchanges, currency-joined, general-joined, commodity-joined, nets-joined, grouped-permuted, groupsOf-permuted, general-mirrored, commodity-mirrored, nets-mirrored}
 use Rattle.charges.specs.Bands.{interestBand, commodityBand, bandIn}
 use Rattle.charges.specs.Weights.{interestWeight, equityWeight, specificWeight}
 use Rattle.charges.specs.Charges.{eightPerCent, groups, currencies, reading, specificOf, specificCharge, interestFiguresOf, commodityFiguresOf}
-use Rattle.charges.specs.Charges.{interestGeneral, equityGeneral, exchangeGeneral, commodityGeneral, interestRisk, equityRisk}
+use Rattle.charges.specs.Charges.{interestGeneral, equityGeneral, exchangeGeneral, commodityGeneral, interestRisk, equityRisk, ofGroup, byCurrency}
+use Rattle.charges.specs.Inner.Slots.{groupCount}
+use Rattle.charges.proofs.Currencies.{alone-general}
 
 -- ---- put together
 module _ (rows more : List Row) where
@@ -43,6 +46,18 @@ module _ (rows more : List Row) where
   unfolding commodityGeneral commodityFiguresOf
   commodities-joined = commodity-joined (reading 4) groups rows more
 
+  -- and of one currency: the premise is its own
+  pub specific-alone-joined : (class g : ℕ) → specificCharge class (ofGroup g (rows ++ more)) ≡ specificCharge class (ofGroup g rows) + specificCharge class (ofGroup g more)
+  unfolding ofGroup specificCharge
+  specific-alone-joined class g = rw (filter-append (λ row. ℕ-discrete (row .group) g) rows more) (sumOf-append (specificOf class) (ofGroup g rows) (ofGroup g more))
+
+  pub general-alone-joined : (table : Table) → AcceptedTable table → (g : ℕ) → g < groupCount → AtMostTwoZones (reading 1) (rows ++ more) g
+      → interestGeneral table (ofGroup g (rows ++ more)) ≤ interestGeneral table (ofGroup g rows) + interestGeneral table (ofGroup g more)
+  unfolding interestFiguresOf
+  general-alone-joined table ok g h two =
+      rw (alone-general table g (rows ++ more) h, alone-general table g rows h, alone-general table g more h)
+      (currency-joined (reading 1) table ok g rows more two)
+
 -- ---- permuted, and mirrored
 -- long and short of a row exchanged, and all else as it was
 abbrev pub mirroredLeg : Row → Row
@@ -63,7 +78,7 @@ specific-mirrored : (class : ℕ) (row : Row) → specificOf class (mirroredLeg 
 unfolding specificOf specificWeight interestWeight equityWeight
 specific-mirrored class row = rw (add-comm (row .short) (row .long))
 
-specific-invariant : (class : ℕ) → Invariant (specificCharge class)
+pub specific-invariant : (class : ℕ) → Invariant (specificCharge class)
 unfolding specificCharge
 specific-invariant class =
     record {
@@ -71,7 +86,7 @@ specific-invariant class =
       mirrored = λ rows. sumOf-map (specificOf class) mirroredLeg rows ∙ simp (specific-mirrored class);
     }
 
-interest-invariant : (table : Table) → Invariant (interestGeneral table)
+pub interest-invariant : (table : Table) → Invariant (interestGeneral table)
 unfolding interestGeneral interestFiguresOf
 interest-invariant table =
     record {
@@ -118,4 +133,14 @@ equity-risk-invariant =
     record {
       permuted = λ p. rw (specific-invariant 2 .permuted p, equity-invariant .permuted p);
       mirrored = λ rows. rw (specific-invariant 2 .mirrored rows, equity-invariant .mirrored rows);
+    }
+
+-- and, of a charge that neither changes, its list by currency
+pub currencies-invariant : (cost : List Row → ℕ) → Invariant cost → Invariant (byCurrency cost)
+unfolding ofGroup byCurrency
+currencies-invariant cost same =
+    record {
+      permuted = λ p. ap (λ (f : ℕ → ℕ). map f groups) (fun-ext (λ g. same .permuted (Perm·filter (λ row. ℕ-discrete (row .group) g) p)));
+      mirrored = λ rows. ap (λ (f : ℕ → ℕ). map f groups)
+          (fun-ext (λ g. ap cost (filter-map (λ row. ℕ-discrete (row .group) g) mirroredLeg rows) ∙ same .mirrored (ofGroup g rows)));
     }

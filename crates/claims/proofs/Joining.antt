@@ -8,7 +8,6 @@ use lib.ListN.{length}
 use Rattle.sums.specs.Every.{none, also}
 use Rattle.sums.proofs.Spans.{in-span}
 use Rattle.book.specs.Rows.{rowsOf, decode}
-use Rattle.book.specs.Legs.{legsOf}
 use Rattle.book.specs.Refusals.{lastGroup, refused}
 use Rattle.book.specs.Accepted.{Accepted}
 use Rattle.book.specs.Parts.{accepts}
@@ -17,7 +16,7 @@ use Rattle.book.proofs.Acceptance.{refused-with-none}
 use Rattle.ladder.specs.Table.{Table, AcceptedTable}
 use Rattle.ladder.specs.Rows.{AtMostTwoZones}
 use Rattle.charges.specs.Charges.{groups, reading, specificCharge, interestGeneral, equityGeneral, interestRisk, equityRisk, exchangeGeneral, commodityGeneral}
-use Rattle.charges.specs.Report.{classRows, reportWith, reportOf}
+use Rattle.charges.specs.Report.{classRows, reportWith, chargedReport, reportOf}
 use Rattle.join.specs.Joined.{joined}
 use Rattle.join.proofs.Settling.{Joins, joins}
 use Rattle.join.proofs.JoinedBook.{joined-rows, joined-accepted}
@@ -28,18 +27,17 @@ use Rattle.claims.specs.Demands.{AtMost, no-figures, figure, joinedBook,
 use Rattle.claims.proofs.Charging.{specific-joined, interest-joined, equity-joined, exchange-joined, commodities-joined}
 
 -- the report of an accepted book
-pub accepted-report : (table : Table) (s : List ℕ) → Accepted s
-    → reportOf table s ≡ reportWith (interestRisk table (classRows s 1)) (equityRisk (classRows s 2)) (exchangeGeneral (classRows s 3)) (commodityGeneral (classRows s 4)) (length (legsOf s))
+pub accepted-report : (table : Table) (s : List ℕ) → Accepted s → reportOf table s ≡ chargedReport table s
 unfolding reportOf accepts refused
 accepted-report table s a = simp (refused-with-none s a)
 
 -- the bytes that join writes are the joined book
-book-written : (a b out : List ℕ) → Joins a b (length out) → joinedBook a b out ≡ joined a b
+pub book-written : (a b out : List ℕ) → Joins a b (length out) → joinedBook a b out ≡ joined a b
 unfolding joinedBook
 book-written a b out ok = written-book a b out ok
 
 -- the rows of the joined book, by their fields
-joined-legs : (a b : List ℕ) → Accepted a → Accepted b → (class : ℕ) → 1 ≤ class → class ≤ 4
+pub joined-legs : (a b : List ℕ) → Accepted a → Accepted b → (class : ℕ) → 1 ≤ class → class ≤ 4
     → classRows (joined a b) class ≡ classRows a class ++ classRows b class
 joined-legs a b of-a of-b class low high =
     let fields : map decode (rowsOf (joined a b) class) ≡ map decode (rowsOf a class) ++ map decode (rowsOf b class) =
@@ -64,7 +62,7 @@ two-in-each s two g member = two g (omega (arith, in-span g 0 (lastGroup + 1) me
 no-dearer : (table : Table) → AcceptedTable table → (j a b : List ℕ) → Accepted j → Accepted a → Accepted b
     → ((class : ℕ) → 1 ≤ class → class ≤ 4 → classRows j class ≡ classRows a class ++ classRows b class)
     → TwoZonesEach j → AtMost (reportFigures (reportOf table j)) (reportFigures (reportOf table a)) (reportFigures (reportOf table b))
-unfolding reportFigures reportWith interestRisk equityRisk
+unfolding reportFigures reportWith chargedReport interestRisk equityRisk
 no-dearer table ok j a b of-j of-a of-b legs two =
     let rows1 = legs 1 (omega arith) (omega arith) in
     let rows2 = legs 2 (omega arith) (omega arith) in

@@ -4,5 +4,6 @@ pub mod Charging
 pub mod Joining
 pub mod Mirroring
 pub mod Ordering
+pub mod Currencies
 pub mod WorkedBooks
 pub mod WorkedJoin

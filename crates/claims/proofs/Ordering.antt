@@ -20,11 +20,11 @@ use Rattle.book.proofs.Walking.{class-rows, legs-length}
 use Rattle.book.proofs.Passing.{passes-clean, clean-passes}
 use Rattle.book.proofs.Acceptance.{accepted, refused-with-none, class-clean, clean-legs}
 use Rattle.ladder.specs.Table.{Table}
-use Rattle.charges.specs.Charges.{interestRisk, equityRisk, exchangeGeneral, commodityGeneral}
-use Rattle.charges.specs.Report.{classRows}
+use Rattle.charges.specs.Charges.{specificCharge, interestGeneral, interestRisk, equityRisk, exchangeGeneral, commodityGeneral, byCurrency}
+use Rattle.charges.specs.Report.{classRows, chargedReport}
 use Rattle.claims.specs.Orders.{Reordered, Rearranged, ReorderedBook, MirroredBook}
 use Rattle.claims.specs.Demands.{Unchanged, OrderHolds}
-use Rattle.claims.proofs.Charging.{Invariant, mirroredLeg, interest-risk-invariant, equity-risk-invariant, exchange-invariant, commodity-invariant}
+use Rattle.claims.proofs.Charging.{Invariant, mirroredLeg, specific-invariant, interest-invariant, interest-risk-invariant, equity-risk-invariant, exchange-invariant, commodity-invariant, currencies-invariant}
 use Rattle.claims.proofs.Joining.{accepted-report}
 use Rattle.claims.proofs.Mirroring.{rows-whole, mirrored-legs, mirrored-clean}
 
@@ -81,6 +81,7 @@ module _ (c d : List ℕ) (of-c : Accepted c) (legs : ℕ → List Row) (of : Or
   same-taken = legs-length d (still-accepted .sized) ∙ ap rowCount (of .counts) ∙ sym (legs-length c (of-c .sized))
 
   unchanged : (table : Table) → Unchanged table c d
+  unfolding chargedReport
   unchanged table =
       record {
         accepted = refused-with-none d still-accepted;
@@ -92,6 +93,8 @@ module _ (c d : List ℕ) (of-c : Accepted c) (legs : ℕ → List Row) (of : Or
               same-cost exchangeGeneral exchange-invariant 3 (omega arith) (omega arith),
               same-cost commodityGeneral commodity-invariant 4 (omega arith) (omega arith),
               same-taken,
+              same-cost (byCurrency (specificCharge 1)) (currencies-invariant (specificCharge 1) (specific-invariant 1)) 1 (omega arith) (omega arith),
+              same-cost (byCurrency (interestGeneral table)) (currencies-invariant (interestGeneral table) (interest-invariant table)) 1 (omega arith) (omega arith),
             ));
       }
 

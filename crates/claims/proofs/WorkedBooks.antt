@@ -3,6 +3,7 @@
 use mathlib.Core.Path.{_≡_, refl}
 use mathlib.Core.List.{List, map, flatMap}
 use Prim.Native.Nat.{ℕ}
+use native.Mathlib.Decide.{ℕ-discrete}
 use Rattle.sums.specs.Sums.{sumOf, span}
 use Rattle.book.specs.Fields.{u16At, u32At}
 use Rattle.book.specs.Counts.{countsOf, countIn, rowsBefore, rowCount, bodyBy, bodyOf}
@@ -18,13 +19,13 @@ use Rattle.layout.specs.Written.{written}
 use Rattle.layout.specs.Files.{twoBytes, fourBytes, rowBytes, contentsBytes, fileOf, legCounts, bookOf}
 use Rattle.charges.specs.Bands.{firstBand, interestBand, commodityBand, bandIn}
 use Rattle.charges.specs.Weights.{qualifyingWeight, interestWeight, equityWeight, specificWeight}
-use Rattle.charges.specs.Charges.{specificOf, specificCharge, interestFiguresOf, commodityFiguresOf, interestGeneral, equityGeneral, exchangeGeneral, commodityGeneral, interestRisk, equityRisk}
-use Rattle.charges.specs.Report.{reportWith, refusedReport, reportOf, ladderRefusal, interestLadderOf, commodityLadderOf}
+use Rattle.charges.specs.Charges.{specificOf, specificCharge, interestFiguresOf, commodityFiguresOf, interestGeneral, equityGeneral, exchangeGeneral, commodityGeneral, interestRisk, equityRisk, ofGroup, byCurrency}
+use Rattle.charges.specs.Report.{reportWith, refusedReport, chargedReport, reportOf, ladderRefusal, interestLadderOf, commodityLadderOf}
 use Rattle.join.specs.Joined.{addedCounts, joinedCounts, joinedBody, joined, inBook, settled, joinRefusal, joinedOf, joinOutput}
 use Rattle.market_risk.specs.Entries.{refusalEntries, reportFigures, reportEntries, interestEntries, commodityEntries, joinedEntries}
 use Rattle.claims.specs.Demands.{joinedBook}
 use Rattle.claims.specs.Worked.{Worked, worked}
-use Rattle.claims.specs.Facts.{tableFacts, costFacts, ladderFacts, refusalFacts, joinFacts}
+use Rattle.claims.specs.Facts.{tableFacts, costFacts, currencyFacts, ladderFacts, refusalFacts, joinFacts}
 
 -- what the definitions give: an unfolding is inherited, so each layer names its own and `given` unfolds with all of them
 unfoldable file : List Worked → List Worked
@@ -48,7 +49,7 @@ unfolding firstBand interestBand commodityBand bandIn qualifyingWeight interestW
 weights facts = facts
 
 unfoldable charges : List Worked → List Worked
-unfolding specificOf specificCharge interestFiguresOf commodityFiguresOf interestGeneral equityGeneral exchangeGeneral commodityGeneral interestRisk equityRisk
+unfolding specificOf specificCharge interestFiguresOf commodityFiguresOf interestGeneral equityGeneral exchangeGeneral commodityGeneral interestRisk equityRisk ofGroup byCurrency ℕ-discrete
 charges facts = facts
 
 unfoldable answers : List Worked → List Worked
@@ -56,7 +57,7 @@ unfolding refusalEntries reportFigures reportEntries interestEntries commodityEn
 answers facts = facts
 
 unfoldable pub given : List Worked → List (List ℕ)
-unfolding file refusals ladders writing weights charges answers reportWith refusedReport reportOf ladderRefusal interestLadderOf commodityLadderOf
+unfolding file refusals ladders writing weights charges answers reportWith refusedReport chargedReport reportOf ladderRefusal interestLadderOf commodityLadderOf
 given facts = map (λ w. w .given) (file (refusals (ladders (writing (weights (charges (answers facts)))))))
 
 pub expected : List Worked → List (List ℕ)
@@ -74,6 +75,10 @@ table-facts = refl
 pub cost-facts : given costFacts ≡ expected costFacts
 unfolding given expected costFacts
 cost-facts = refl
+
+pub currency-facts : given currencyFacts ≡ expected currencyFacts
+unfolding given expected currencyFacts
+currency-facts = refl
 
 pub ladder-facts : given ladderFacts ≡ expected ladderFacts
 unfolding given expected ladderFacts

@@ -1,4 +1,4 @@
--- Facts of document 01 that E1 to E10 leave open, as it prints them: bands, weights, zones, specific weights, ladders, and each refusal at its limit.
+-- Facts of document 01 that E1 to E10 leave open, as it prints them: bands, weights, zones, specific weights, ladders, currencies, and each refusal at its limit.
 use Prim.Native.Nat.{ℕ, suc}
 use mathlib.Core.List.{List, [], _∷_, _++_, map}
 use lib.ListN.{length, replicate}
@@ -10,7 +10,8 @@ use Rattle.charges.specs.Bands.{commodityBand}
 use Rattle.charges.specs.Report.{interestLadderOf, commodityLadderOf}
 use Rattle.join.specs.Joined.{joinedOf}
 use Rattle.market_risk.specs.Entries.{interestEntries, commodityEntries, joinedEntries}
-use Rattle.claims.specs.Worked.{Worked, leg, equity, currency, commodity, costs, refuses, bandAt, interestExample, commodityExample, oneRow}
+use Rattle.claims.specs.Demands.{joinedBook}
+use Rattle.claims.specs.Worked.{Worked, leg, government, equity, currency, commodity, costs, splits, refuses, bandAt, interestExample, commodityExample, oneRow}
 
 -- the band of each last day, and of the day after it
 abbrev pub lastDays : (ℕ → ℕ) → List ℕ → Worked
@@ -60,6 +61,26 @@ costFacts =
     ∷ costs (bookOf (equity 3 1 100 0 ∷ equity 3 3 0 40 ∷ [])) 0 0 8800000 4800000 0 0 13600000 2
     ∷ costs (bookOf (equity 3 1 100 0 ∷ equity 0 2 0 10 ∷ [])) 0 0 8400000 8800000 0 0 17200000 2
     ∷ costs (bookOf (leg 1 2 3 270 300 1 0 ∷ equity 1 2 3 0 ∷ currency 0 0 2 ∷ commodity 0 36000 1 0 ∷ [])) 80000 7000 120000 240000 160000 150000 757000 4
+    ∷ []
+
+-- other paper within 30 days, of weight 0, in currency 0; qualifying paper and a bond in 31; equity in market 30
+abbrev pub threeCurrencies : List ℕ
+threeCurrencies = bookOf (leg 1 0 3 30 300 10 0 ∷ leg 1 31 2 60 300 0 4 ∷ leg 1 30 1 270 300 1 0 ∷ equity 30 1 5 0 ∷ leg 1 31 1 60 300 10 0 ∷ [])
+
+-- E4 joined, in currency 9 of three zones, with a bond of currency 5 in each book
+abbrev pub zonesJoined : List ℕ
+zonesJoined =
+    joinedBook
+    (bookOf (government 9 270 75 0 ∷ government 5 270 75 0 ∷ government 9 900 0 30 ∷ []))
+    (bookOf (government 9 900 30 0 ∷ government 9 6000 0 10 ∷ government 5 270 0 75 ∷ []))
+    (replicate 104 0)
+
+-- the charge of each currency: E2; rows of weight 0 and of two currencies, and none of equity; a currency of three zones beside one of one
+unfoldable pub currencyFacts : List Worked
+currencyFacts =
+    splits interestExample (6 ∷ 7 ∷ 8 ∷ []) (0 ∷ 0 ∷ 213280000 ∷ 4580112500 ∷ 0 ∷ 0 ∷ [])
+    ∷ splits threeCurrencies (0 ∷ 1 ∷ 30 ∷ 31 ∷ []) (800000 ∷ 0 ∷ 0 ∷ 0 ∷ 0 ∷ 7000 ∷ 10000 ∷ 12800 ∷ [])
+    ∷ splits zonesJoined (5 ∷ 9 ∷ []) (0 ∷ 52500 ∷ 0 ∷ 577500 ∷ [])
     ∷ []
 
 -- all figures of both ladder calls, refused and not

@@ -1,6 +1,7 @@
--- What is claimed: the accepted books and their parts, joining, order and mirror; the books worked by hand, and facts of document 01.
+-- What is claimed: the accepted books and their parts, joining, order and mirror, the charge of each currency; the books worked by hand, and facts of document 01.
 pub mod Zones
 pub mod Orders
 pub mod Demands
+pub mod Currencies
 pub mod Worked
 pub mod Facts

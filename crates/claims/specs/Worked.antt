@@ -1,7 +1,7 @@
 -- The books worked by hand, E1 to E10 of document 01, as legs and figures. No book is in group 0, but for gold.
 use Prim.Native.Nat.{ℕ, _≤_}
-use mathlib.Core.List.{List, [], _∷_, _++_}
-use lib.ListN.{replicate}
+use mathlib.Core.List.{List, [], _∷_, _++_, flatMap}
+use lib.ListN.{take, replicate}
 use Rattle.book.specs.Legs.{Leg}
 use Rattle.ladder.specs.Table.{standardTable}
 use Rattle.layout.specs.Files.{twoBytes, bookOf}
@@ -9,6 +9,7 @@ use Rattle.charges.specs.Bands.{interestBand}
 use Rattle.charges.specs.Report.{reportOf}
 use Rattle.market_risk.specs.Entries.{reportFigures, reportEntries}
 use Rattle.claims.specs.Demands.{joinedBook}
+use Rattle.claims.specs.Currencies.{specificIn, generalIn}
 
 -- ---- legs, their issue number 0
 abbrev pub leg : (class group kind days coupon long short : ℕ) → Leg
@@ -35,12 +36,18 @@ pub record Worked : Type 0 where
 -- a charged book: specific and general interest, specific and general equity, foreign exchange, commodities, the total, and the rows taken
 abbrev pub costs : List ℕ → (interest-specific interest-general equity-specific equity-general exchange commodity total taken : ℕ) → Worked
 costs book is ig es eg x c total taken =
-    record { given = reportEntries (reportOf standardTable book); expected = 0 ∷ 0 ∷ 0 ∷ is ∷ ig ∷ es ∷ eg ∷ x ∷ c ∷ total ∷ taken ∷ [] }
+    record { given = take 11 (reportEntries (reportOf standardTable book)); expected = 0 ∷ 0 ∷ 0 ∷ is ∷ ig ∷ es ∷ eg ∷ x ∷ c ∷ total ∷ taken ∷ [] }
 
--- a refused book: number and row, and no figure
+-- the specific and the general charge of some currencies, one after the other (P6)
+abbrev pub splits : List ℕ → List ℕ → List ℕ → Worked
+splits book currencies expected =
+    let report = reportOf standardTable book in
+    record { given = flatMap (λ currency. specificIn report currency ∷ generalIn report currency ∷ []) currencies; expected = expected }
+
+-- a refused book: number and row, and no figure, also of a currency
 abbrev pub refuses : List ℕ → ℕ → ℕ → Worked
 refuses book number row =
-    record { given = reportEntries (reportOf standardTable book); expected = number ∷ row ∷ 0 ∷ replicate 8 0 }
+    record { given = reportEntries (reportOf standardTable book); expected = number ∷ row ∷ 0 ∷ replicate 72 0 }
 
 -- the band of some days at a coupon
 abbrev pub bandAt : (coupon days : ℕ) → ℕ

@@ -43,3 +43,8 @@ written-more out done piece at mid e f place room =
 pub written-nothing : (out : List ℕ) (at : ℕ) → written out at [] ≡ out
 unfolding written
 written-nothing out at = rw add-zero (take-append-drop at out)
+
+-- a list as long as the output takes the place of all of it
+pub written-whole : (out src : List ℕ) → length src ≡ length out → written out 0 src ≡ src
+unfolding written
+written-whole out src same = rw (drop-of-length-le out {i = 0 + length src} (omega arith)) (append-nil src)

@@ -18,9 +18,10 @@ reportFigures report =
     report .equity .specific ∷ report .equity .general ∷
     report .exchange ∷ report .commodity ∷ report .total ∷ []
 
--- the refusal, the figures, and the rows taken (P4)
+-- the refusal, the figures, the rows taken (P4), and the specific and the general interest charge of each currency (P6)
 unfoldable pub reportEntries : Report → List ℕ
-reportEntries report = refusalEntries (report .refusal) ++ (reportFigures report ++ (report .taken ∷ []))
+reportEntries report =
+    (refusalEntries (report .refusal) ++ (reportFigures report ++ (report .taken ∷ []))) ++ (report .specifics ++ report .generals)
 
 -- the refusal, gross, the match sums, the residual, the charge (document 01, Interest: bands and zones)
 unfoldable pub interestEntries : InterestLadder → List ℕ

@@ -1,11 +1,16 @@
 // The calls for programs in other languages: each writes every entry of its result.
 ghost use mathlib.Core.Path.{_≡_};
+ghost use Prim.Native.Nat.{_+_, _≤_};
 ghost use lib.ListN.{length as len};
 ghost use Rattle.book.specs.Refusals.{refusalOf};
 ghost use Rattle.ladder.specs.Table.{standardTable};
+ghost use Rattle.layout.specs.Written.{written};
 ghost use Rattle.charges.specs.Report.{reportOf, interestLadderOf, commodityLadderOf};
 ghost use Rattle.join.specs.Joined.{joinedOf, joinOutput};
 ghost use Rattle.market_risk.specs.Entries.{refusalEntries, reportEntries, interestEntries, commodityEntries, joinedEntries};
+
+// The entries of a report: its refusal and figures, and two for each currency.
+const REPORT: usize = 75;
 
 // The refusal of a book.
 #[no_mangle]
@@ -22,11 +27,11 @@ pub extern "C" fn market_risk_check(book: &[u8], out: &mut [u64; 3])
 
 // The report of a book.
 #[no_mangle]
-pub extern "C" fn market_risk_charge(book: &[u8], out: &mut [u64; 11])
+pub extern "C" fn market_risk_charge(book: &[u8], out: &mut [u64; REPORT])
     ensures { λ r. ⌜ now (out .exit) ≡ reportEntries (reportOf standardTable (now (book .entry))) ⌝ }
 {
     let report = charges::charge(book);
-    *out = [
+    let figures = [
         report.refusal.number as u64,
         report.refusal.row as u64,
         report.refusal.book as u64,
@@ -39,6 +44,24 @@ pub extern "C" fn market_risk_charge(book: &[u8], out: &mut [u64; 11])
         report.total,
         report.taken as u64,
     ];
+    let specifics = report.specifics;
+    let generals = report.generals;
+    *out = [0; REPORT];
+    write_entries(&figures, out, 0);
+    write_entries(&specifics, out, 11);
+    write_entries(&generals, out, 43);
+}
+
+// Writes entries of a report from an index on; every other entry keeps its value.
+fn write_entries(entries: &[u64], out: &mut [u64; REPORT], at: usize)
+    requires { ⌜ (len (now out) ≡ 75) × (at + len (now entries) ≤ 75) ⌝ }
+    ensures { λ r. ⌜ now (out .exit) ≡ written (now (out .entry)) at (now (entries .entry)) ⌝ }
+{
+    let mut i: usize = 0;
+    while i < entries.len() {
+        out[at + i] = entries[i];
+        i += 1;
+    }
 }
 
 // The interest ladder of a currency.

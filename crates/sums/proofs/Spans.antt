@@ -113,6 +113,14 @@ pub sum-same : (f g : ℕ → ℕ) (n : ℕ) → ((k : ℕ) → k < n → f k �
 sum-same f g zero same = sum-none f ∙ sym (sum-none g)
 sum-same f g (suc n) same = omega (arith, sum-suc f n, sum-suc g n, sum-same f g n (λ k h. same k (omega arith)), same n (omega arith))
 
+-- of the numbers below n only k is at index k
+pub sum-at : (f : ℕ → ℕ) (n k : ℕ) → k < n → sumAt (λ j. j) f k (span 0 n) ≡ f k
+sum-at f n k h = sum-same _ (slot k (f k)) n (λ j below. go j (ℕ-discrete k j)) ∙ slot-within k (f k) 0 n (omega arith) (omega arith)
+  where
+    go : (j : ℕ) → Dec (k ≡ j) → cond (eqb j k) (f j) 0 ≡ slot k (f k) j
+    go j (yes own) = rw (← own)
+    go j (no other) = slot-other j (f j) k (λ e. other (sym e)) ∙ sym (slot-other k (f k) j other)
+
 -- ---- a sum that a loop has brought as far as g
 pub record Summed (f : ℕ → ℕ) (n sum g : ℕ) : Type 0 where
   pub reached : g ≤ n

@@ -15,6 +15,13 @@ fn figure(value: u64) {
     io::print_decimal(STDOUT_FILENO, value);
 }
 
+// The figures of all currencies.
+fn list(values: [u64; 32]) {
+    for currency in 0..32usize {
+        figure(values[currency]);
+    }
+}
+
 fn end() {
     io::write_all(STDOUT_FILENO, b"\n");
 }
@@ -35,6 +42,10 @@ pub fn charge(book: &[u8]) {
     figure(report.commodity);
     figure(report.total);
     figure(report.taken as u64);
+    let specifics = report.specifics;
+    list(specifics);
+    let generals = report.generals;
+    list(generals);
     end();
 }
 

@@ -2,6 +2,9 @@
 
 use crate::{Book, Random, Row, CLASSES};
 
+/// The groups of a class.
+const GROUPS: usize = 32;
+
 /// The last days of all bands of all ladders, and the ends of the range.
 const EDGE_DAYS: [u16; 26] = [
     0, 1, 30, 90, 180, 360, 684, 720, 1008, 1080, 1296, 1440, 1548, 1800, 2052, 2520, 2628, 3348,
@@ -15,12 +18,17 @@ pub struct Shape {
     pub rows: usize,
     /// The groups that its rows are in.
     pub groups: Vec<u8>,
-    /// An interest zone, 1 to 3, that no row lies in.
-    pub without: Option<u8>,
+    /// For each group an interest zone, 1 to 3, that none of its rows lies in.
+    pub without: [Option<u8>; GROUPS],
+}
+
+/// No zone, or one of the three.
+fn left_out(random: &mut Random) -> Option<u8> {
+    [None, Some(1), Some(2), Some(3)][random.below(4) as usize]
 }
 
 impl Shape {
-    /// A shape with few groups or all of them, and often one zone left out.
+    /// A shape with few groups or all of them, and often one zone left out in all.
     pub fn new(random: &mut Random, rows: usize) -> Shape {
         let groups = match random.below(4) {
             0 => (0..32).collect(),
@@ -29,11 +37,24 @@ impl Shape {
                 .map(|_| random.below(32) as u8)
                 .collect(),
         };
-        let without = [None, Some(1), Some(2), Some(3)][random.below(4) as usize];
         Shape {
             rows,
             groups,
-            without,
+            without: [left_out(random); GROUPS],
+        }
+    }
+
+    /// A shape with two to four groups, often the first and the last, each with a zone of its
+    /// own left out or none.
+    pub fn of_currencies(random: &mut Random, rows: usize) -> Shape {
+        let group = |random: &mut Random| match random.once_in(4) {
+            true => random.pick(&[0, 31]),
+            false => random.below(32) as u8,
+        };
+        Shape {
+            rows,
+            groups: (0..2 + random.below(3)).map(|_| group(random)).collect(),
+            without: [(); GROUPS].map(|()| left_out(random)),
         }
     }
 }
@@ -92,8 +113,9 @@ pub fn row(random: &mut Random, class: usize, shape: &Shape) -> Row {
         row.coupon = coupon(random);
     }
     if class == 0 || class == 3 {
+        let without = shape.without[usize::from(row.group)];
         row.days = days(random);
-        while class == 0 && Some(zone(row.days, row.coupon)) == shape.without {
+        while class == 0 && Some(zone(row.days, row.coupon)) == without {
             row.days = days(random);
         }
     }
@@ -118,6 +140,19 @@ pub fn book(random: &mut Random, shape: &Shape) -> Book {
     book
 }
 
+/// An accepted book of a shape, with few rows that are not interest rows.
+pub fn interest_book(random: &mut Random, shape: &Shape) -> Book {
+    let mut book = Book::default();
+    for _ in 0..shape.rows {
+        let class = match random.once_in(8) {
+            true => random.below(CLASSES as u64) as usize,
+            false => 0,
+        };
+        book.classes[class].push(row(random, class, shape));
+    }
+    book
+}
+
 #[cfg(test)]
 mod tests {
     use super::*;
@@ -129,13 +164,41 @@ mod tests {
             let shape = Shape {
                 rows: 0,
                 groups: vec![4],
-                without: Some(without),
+                without: [Some(without); GROUPS],
             };
             for _ in 0..500 {
                 let row = row(&mut random, 0, &shape);
                 assert_ne!(zone(row.days, row.coupon), without);
             }
         }
+    }
+
+    /// Catches currencies that all leave the same zone out, or never use three beside others
+    /// that do not.
+    #[test]
+    fn each_currency_has_its_own_zones() {
+        let (mut apart, mut mixed) = (false, false);
+        for case in 0..50 {
+            let mut random = Random::of_case(6, case);
+            let shape = Shape::of_currencies(&mut random, 60);
+            assert!((2..=4).contains(&shape.groups.len()));
+            let book = interest_book(&mut random, &shape);
+            assert!(book.classes[0].len() > 30);
+            let zones = |group: u8| {
+                let own = book.classes[0].iter().filter(|row| row.group == group);
+                let used: Vec<u8> = own.map(|row| zone(row.days, row.coupon)).collect();
+                [1, 2, 3].map(|zone| used.contains(&zone))
+            };
+            let without = |group: &u8| shape.without[usize::from(*group)];
+            for group in &shape.groups {
+                let used = zones(*group);
+                assert!(without(group).is_none_or(|zone| !used[usize::from(zone) - 1]));
+                apart |= without(group) != without(&shape.groups[0]);
+            }
+            let three = |group: &u8| zones(*group) == [true; 3];
+            mixed |= shape.groups.iter().any(three) && !shape.groups.iter().all(three);
+        }
+        assert!(apart && mixed);
     }
 
     #[test]

@@ -3,14 +3,22 @@
  * Nets are enough. A match takes as much from the longs as from the shorts, so all that is
  * matched in a band, a zone or a commodity is half of what the gross has above the net. */
 
+/* A currency: two sums over its rows side by side, of amounts times the weights of their bands
+ * and of amounts times their specific weights; and nets by band. */
+struct currency {
+    __m128i sums;
+    int64_t bands[16];
+};
+
 /* Nets by group and band. */
 struct nets {
-    int64_t interest[32][16], commodity[32][8], equity[32], exchange[32];
+    struct currency interest[32];
+    int64_t commodity[32][8], equity[32], exchange[32];
 };
 
 /* Sums over all groups, in registers, and the groups that are used, a bit each. */
 struct totals {
-    uint64_t weighted, commodities, interest_specific, equity_specific;
+    uint64_t commodities, equity_specific;
     uint32_t currencies_used, commodities_used;
 };
 
@@ -18,10 +26,11 @@ static inline void take_interest(struct nets *nets, struct totals *totals, const
     uint64_t head = word(row), amounts = word(row + 8);
     uint32_t group = head & 31, kind = head >> 8 & 3, days = (uint16_t)(head >> 16);
     uint32_t band = INTEREST[(uint16_t)(head >> 32) < 300][CELL(days)];
-    uint64_t amount = amount_of(amounts);
-    nets->interest[group][band] += WEIGHT[band] * net_of(amounts);
-    totals->weighted += WEIGHT[band] * amount;
-    totals->interest_specific += amount * SPECIFIC[kind][(days > 180) + (days > 720)];
+    __m128i weights = _mm_set_epi64x(SPECIFIC[kind][(days > 180) + (days > 720)], WEIGHT[band]);
+    __m128i weighted = _mm_mul_epu32(weights, _mm_set1_epi64x(amount_of(amounts)));
+    struct currency *currency = &nets->interest[group];
+    currency->sums = _mm_add_epi64(currency->sums, weighted);
+    currency->bands[band] += WEIGHT[band] * net_of(amounts);
     totals->currencies_used |= 1u << group;
 }
 
@@ -61,19 +70,24 @@ static inline void add(const int64_t *bands, int count, uint64_t *gross, int64_t
     }
 }
 
-/* One currency's charge, without 5 for its weighted gross. */
-static inline uint64_t currency(const int64_t *bands) {
-    uint64_t gross[3];
+/* One currency's specific charge. */
+static inline uint64_t specific(const struct currency *of) {
+    return 100 * (uint64_t)_mm_cvtsi128_si64(_mm_unpackhi_epi64(of->sums, of->sums));
+}
+
+/* One currency's general charge. */
+static inline uint64_t general(const struct currency *of) {
+    uint64_t weighted = _mm_cvtsi128_si64(of->sums), gross[3];
     int64_t net[3];
-    add(bands, 4, &gross[0], &net[0]);
-    add(bands + 4, 3, &gross[1], &net[1]);
-    add(bands + 7, 8, &gross[2], &net[2]);
+    add(of->bands, 4, &gross[0], &net[0]);
+    add(of->bands + 4, 3, &gross[1], &net[1]);
+    add(of->bands + 7, 8, &gross[2], &net[2]);
     uint64_t zones = 20 * (gross[0] - absolute(net[0]))
         + 15 * (gross[1] - absolute(net[1]) + gross[2] - absolute(net[2]));
     uint64_t near = offset(&net[0], &net[1]);
     near += offset(&net[1], &net[2]);
     uint64_t far = offset(&net[0], &net[2]) + absolute(net[0] + net[1] + net[2]);
-    return zones + 40 * near + 100 * far - 5 * (gross[0] + gross[1] + gross[2]);
+    return zones + 40 * near + 100 * far + 5 * (weighted - gross[0] - gross[1] - gross[2]);
 }
 
 /* One commodity's charge, without 15,000 for its gross. */
@@ -88,11 +102,13 @@ static inline uint64_t commodity(const int64_t *bands) {
 }
 
 static inline void charges(const struct nets *nets, const struct totals *totals, uint64_t *out) {
-    uint64_t interest = 5 * totals->weighted, commodities = 15000 * totals->commodities;
-    uint64_t equity = 0, gross = 0;
+    uint64_t commodities = 15000 * totals->commodities, equity = 0, gross = 0;
     int64_t net = 0;
-    for (uint32_t used = totals->currencies_used; used; used &= used - 1)
-        interest += currency(nets->interest[__builtin_ctz(used)]);
+    for (uint32_t used = totals->currencies_used; used; used &= used - 1) {
+        int group = __builtin_ctz(used);
+        out[3] += out[11 + group] = specific(&nets->interest[group]);
+        out[4] += out[43 + group] = general(&nets->interest[group]);
+    }
     for (uint32_t used = totals->commodities_used; used; used &= used - 1)
         commodities += commodity(nets->commodity[__builtin_ctz(used)]);
     for (int group = 0; group < 32; group++) equity += absolute(nets->equity[group]);
@@ -100,7 +116,6 @@ static inline void charges(const struct nets *nets, const struct totals *totals,
         gross += absolute(nets->exchange[group]);
         net += nets->exchange[group];
     }
-    out[3] = 100 * totals->interest_specific, out[4] = interest;
     out[5] = 100 * totals->equity_specific, out[6] = 80000 * equity;
     out[7] = 80000 * ((gross + absolute(net)) / 2 + absolute(nets->exchange[0]));
     out[8] = commodities;

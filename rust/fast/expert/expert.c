@@ -22,11 +22,11 @@
     }
 
 /* Number, row, book; the six charges; the total; the rows taken, which are those before the
- * place in the file that the pass has come to. */
+ * place in the file that the pass has come to; 32 specific charges and 32 general ones. */
 void expert_charge(const uint8_t *book, size_t length, uint64_t *out) {
-    /* Ten and one: gcc clears eleven at once by rep stos, which takes longer. */
-    memset(out, 0, 10 * sizeof *out);
-    out[10] = 0;
+    /* Ten by ten, and five: gcc clears more at once by rep stos, which takes longer. */
+    for (int ten = 0; ten < 70; ten += 10) memset(out + ten, 0, 10 * sizeof *out);
+    memset(out + 70, 0, 5 * sizeof *out);
     if (length < 8) {
         out[0] = 1;
         return;

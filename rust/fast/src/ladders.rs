@@ -1,6 +1,6 @@
 //! The charges of the sums, in mils.
 
-use crate::pass::{Commodity, Currency, Sides, Sums};
+use crate::pass::{Commodity, Currency, Sides, Sums, SUM};
 
 /// The numbers of the bits that are set.
 fn groups(mut bits: u32) -> impl Iterator<Item = usize> {
@@ -37,7 +37,7 @@ fn zone(bands: &[Sides]) -> (u64, u64, i64) {
 /// The ten figures of one currency's ladder, in the order of the ladder call.
 #[inline(always)]
 pub fn currency(bands: &Currency) -> [u64; 10] {
-    let gross = bands.iter().flatten().sum();
+    let gross = bands[..SUM].iter().flatten().sum();
     let (vertical_1, zone_1, mut one) = zone(&bands[..4]);
     let (vertical_2, zone_2, mut two) = zone(&bands[4..7]);
     let (vertical_3, zone_3, mut three) = zone(&bands[7..15]);
@@ -55,11 +55,18 @@ pub fn currency(bands: &Currency) -> [u64; 10] {
     ]
 }
 
-/// The general interest charge.
-pub fn interest(sums: &Sums) -> u64 {
-    groups(sums.currencies)
-        .map(|group| currency(&sums.interest[group])[9])
-        .sum()
+/// The specific and the general charge of each currency that has rows, written to its place
+/// in two lists, and their sums.
+#[inline(always)]
+pub fn interest(sums: &Sums, specifics: &mut [u64], generals: &mut [u64]) -> [u64; 2] {
+    let mut both = [0; 2];
+    for group in groups(sums.currencies) {
+        let bands = &sums.interest[group];
+        let (specific, general) = (100 * bands[SUM][0], currency(bands)[9]);
+        (specifics[group], generals[group]) = (specific, general);
+        both = [both[0] + specific, both[1] + general];
+    }
+    both
 }
 
 /// The general equity charge.

@@ -7,8 +7,12 @@ use crate::tables::{cell, COMMODITY, EQUITY, INTEREST, SPECIFIC, WEIGHTS};
 /// Longs and shorts.
 pub type Sides = [u64; 2];
 
-/// A currency's weighted positions by band; the last place is unused.
+/// A currency's weighted positions by band. The last place is no band: its first side is the
+/// sum of the rows' amounts times their specific weights, beside the bands of the same rows.
 pub type Currency = [Sides; 16];
+
+/// The place of that sum.
+pub const SUM: usize = 15;
 
 /// A commodity's amounts by band; the last place is unused.
 pub type Commodity = [Sides; 8];
@@ -19,7 +23,6 @@ pub struct Sums {
     pub commodity: [Commodity; 32],
     pub equity: [i64; 32],
     pub exchange: [i64; 32],
-    pub interest_specific: u64,
     pub equity_specific: u64,
     /// The groups with interest rows and with commodity rows, a bit each.
     pub currencies: u32,
@@ -50,7 +53,6 @@ impl Sums {
         commodity: [[[0; 2]; 8]; 32],
         equity: [0; 32],
         exchange: [0; 32],
-        interest_specific: 0,
         equity_specific: 0,
         currencies: 0,
         commodities: 0,
@@ -71,13 +73,14 @@ impl Sums {
 
     #[inline(always)]
     fn take_interest(&mut self, book: &Book) -> Result<usize, Bad> {
-        let (mut specific, mut used) = (0, 0);
+        let mut used = 0;
         let taken = book.each(0, |row| {
-            let place = add_interest(&mut self.interest[row.group()], row);
-            specific += row.amount() * SPECIFIC[(4 * row.kind() + place) & 15];
+            let currency = &mut self.interest[row.group()];
+            let place = add_interest(currency, row);
+            currency[SUM][0] += row.amount() * SPECIFIC[(4 * row.kind() + place) & 15];
             used |= 1 << row.group();
         })?;
-        (self.interest_specific, self.currencies) = (specific, used);
+        self.currencies = used;
         Ok(taken)
     }
 

@@ -3,7 +3,7 @@
 mod common;
 
 use books::damage::damage;
-use books::generate::{book, Shape};
+use books::generate::{book, interest_book, Shape};
 use books::{Book, Random, Row};
 use common::{compare, compare_join};
 
@@ -29,6 +29,18 @@ fn random_and_damaged_books() {
         seen[second::check(&bytes).number as usize] += 1;
     }
     assert!(seen.iter().all(|count| *count > 0), "{seen:?}");
+}
+
+/// Catches a list of the currencies that is right where there is one alone.
+#[test]
+fn books_of_several_currencies() {
+    for case in 0..3_000 {
+        let mut random = Random::of_case(13, case);
+        let rows = random.below(60) as usize;
+        let shape = Shape::of_currencies(&mut random, rows);
+        let bytes = interest_book(&mut random, &shape).encode().unwrap();
+        compare(&bytes, shape.groups[0].into());
+    }
 }
 
 #[test]

@@ -24,7 +24,8 @@ mod refusal;
 
 pub use refusal::Refusal;
 
-/// The six charges of a book and their total, in mils, and how many rows were taken.
+/// The six charges of a book and their total, in mils, how many rows were taken, and the two
+/// interest charges of each currency, in mils.
 #[derive(Clone, Copy, Debug, Default, PartialEq, Eq)]
 pub struct Report {
     pub interest_specific: u64,
@@ -36,6 +37,12 @@ pub struct Report {
     pub total: u64,
     /// How many rows were taken from the file: as many as the book has.
     pub taken: u64,
+    /// The specific charge of each currency's interest rows alone, by group. They sum to
+    /// `interest_specific`.
+    pub specifics: [u64; 32],
+    /// The general charge of each currency's interest rows alone, by group. They sum to
+    /// `interest_general`.
+    pub generals: [u64; 32],
 }
 
 /// The interest ladder of one currency. All but the charge are weighted positions:
@@ -83,14 +90,29 @@ pub fn check(book: &[u8]) -> Result<(), Refusal> {
     Refusal::of(&out)
 }
 
+/// The figures of the 32 currencies, from an entry on.
+fn list(out: &[u64; 75], first: usize) -> [u64; 32] {
+    std::array::from_fn(|group| out[first + group])
+}
+
 /// The report of a book.
 ///
 /// ```
 /// assert_eq!(market_risk::charge(&[0; 8])?.total, 0);
+/// // Two currencies: other paper long 10 at 30 days in currency 0, which costs 8% and bears
+/// // no weight; a government bond long 10 at 60 days in currency 31, which bears 0.20%.
+/// let mut book = vec![2, 0, 0, 0, 0, 0, 0, 0];
+/// book.extend([0, 3, 30, 0, 0x20, 3, 0, 0, 10, 0, 0, 0, 0, 0, 0, 0]);
+/// book.extend([31, 1, 60, 0, 0x20, 3, 0, 0, 10, 0, 0, 0, 0, 0, 0, 0]);
+/// let report = market_risk::charge(&book)?;
+/// assert_eq!((report.specifics[0], report.generals[0]), (800_000, 0));
+/// assert_eq!((report.specifics[31], report.generals[31]), (0, 20_000));
+/// assert_eq!(report.specifics.iter().sum::<u64>(), report.interest_specific);
+/// assert_eq!(report.generals.iter().sum::<u64>(), report.interest_general);
 /// # Ok::<(), market_risk::Refusal>(())
 /// ```
 pub fn charge(book: &[u8]) -> Result<Report, Refusal> {
-    let mut out = [0; 11];
+    let mut out = [0; 75];
     raw::charge(book, &mut out);
     Refusal::of(&out)?;
     Ok(Report {
@@ -102,6 +124,8 @@ pub fn charge(book: &[u8]) -> Result<Report, Refusal> {
         commodity: out[8],
         total: out[9],
         taken: out[10],
+        specifics: list(&out, 11),
+        generals: list(&out, 43),
     })
 }
 

@@ -39,8 +39,9 @@ pub fn check(book: &[u8], out: &mut [u64; 3]) {
     unsafe { c::market_risk_check(book.as_ptr(), book.len(), out.as_mut_ptr()) }
 }
 
-/// Number, row, book; the six charges; the total; the rows taken.
-pub fn charge(book: &[u8], out: &mut [u64; 11]) {
+/// Number, row, book; the six charges; the total; the rows taken; the specific interest
+/// charges of currencies 0 to 31; their general interest charges.
+pub fn charge(book: &[u8], out: &mut [u64; 75]) {
     // SAFETY: as in `check`.
     unsafe { c::market_risk_charge(book.as_ptr(), book.len(), out.as_mut_ptr()) }
 }

@@ -30,6 +30,10 @@ fn e3_and_e4() {
     let b = interest(&[bond(900, 30), bond(6000, -10)]);
     let both = joined(&a, &b).unwrap();
     assert_eq!(charge(&both).unwrap().total, 577_500);
+    // Joined, the currency uses three zones and costs more than in the two.
+    let general = |book: &[u8]| charge(book).unwrap().generals[7];
+    let generals = [&e3, &a, &b, &both].map(|book| general(book));
+    assert_eq!(generals, [735_000, 210_000, 210_000, 577_500]);
     let taken = |book: &[u8]| charge(book).unwrap().taken;
     assert_eq!([&e3, &a, &b, &both].map(|book| taken(book)), [3, 2, 2, 4]);
 }
@@ -39,11 +43,13 @@ fn e3_and_e4() {
 fn a_refused_charge_has_no_figure_and_no_row_taken() {
     let rows = [bond(270, 75), bond(900, -30), bond(6000, 10)];
     let late = interest(&[&rows[..], &[bond(36_001, 1)]].concat());
-    let mut out = [u64::MAX; 11];
+    let mut out = [u64::MAX; 75];
     raw::charge(&late, &mut out);
-    assert_eq!(out, [6, 3, 0, 0, 0, 0, 0, 0, 0, 0, 0]);
+    assert_eq!(out[..3], [6, 3, 0]);
+    assert_eq!(out[3..], [0; 72]);
     raw::charge(&interest(&rows)[..55], &mut out);
-    assert_eq!(out, [3, 0, 0, 0, 0, 0, 0, 0, 0, 0, 0]);
+    assert_eq!(out[..3], [3, 0, 0]);
+    assert_eq!(out[3..], [0; 72]);
 }
 
 #[test]
@@ -70,22 +76,22 @@ fn refusals_carry_number_row_and_book() {
 #[test]
 fn every_entry_is_written() {
     let marked = u64::MAX;
-    let (mut three, mut eleven, mut four) = ([marked; 3], [marked; 11], [marked; 4]);
-    let (mut thirteen, mut seven) = ([marked; 13], [marked; 7]);
+    let (mut check, mut charge, mut join) = ([marked; 3], [marked; 75], [marked; 4]);
+    let (mut interest, mut commodity) = ([marked; 13], [marked; 7]);
     for book in [&[0; 8][..], &[]] {
-        raw::check(book, &mut three);
-        raw::charge(book, &mut eleven);
-        raw::interest_ladder(book, 31, &mut thirteen);
-        raw::commodity_ladder(book, 31, &mut seven);
-        raw::join(book, &[0; 8], &mut [0; 8], &mut four);
-        let entries = [&three[..], &eleven, &thirteen, &seven, &four].concat();
+        raw::check(book, &mut check);
+        raw::charge(book, &mut charge);
+        raw::interest_ladder(book, 31, &mut interest);
+        raw::commodity_ladder(book, 31, &mut commodity);
+        raw::join(book, &[0; 8], &mut [0; 8], &mut join);
+        let entries = [&check[..], &charge, &interest, &commodity, &join].concat();
         assert!(!entries.contains(&marked));
         [
-            &mut three[..],
-            &mut eleven,
-            &mut thirteen,
-            &mut seven,
-            &mut four,
+            &mut check[..],
+            &mut charge,
+            &mut interest,
+            &mut commodity,
+            &mut join,
         ]
         .iter_mut()
         .for_each(|out| out.fill(marked));

@@ -79,24 +79,12 @@ fn hold(books: &[Read]) {
     }
 }
 
-#[test]
-fn report() {
-    // Other, 270 days, 1: 8% is 80,000 mils, 0.70% is 7,000. Diversified, 3: 4% is 120,000,
-    // 8% is 240,000. Gold, 2: 8% is 160,000. Commodity past the last step, 1: 15%. Four rows.
-    let book = book([
-        &[row(2, 3, 270, 300, 1)],
-        &[row(1, 2, 0, 0, 3)],
-        &[row(0, 0, 0, 0, -2)],
-        &[row(0, 0, 36_000, 0, 1)],
-    ]);
-    let by_hand = [
-        80_000, 7_000, 120_000, 240_000, 160_000, 150_000, 757_000, 4,
-    ];
-    let mut entries = [0; 11];
-    raw::charge(&book, &mut entries);
-    assert_eq!(entries[3..], by_hand);
-    let report = charge(&book).unwrap();
-    let fields = vec![
+/// The entries and the fields of a report.
+fn charged(book: &[u8]) -> Read {
+    let mut entries = [0; 75];
+    raw::charge(book, &mut entries);
+    let report = charge(book).unwrap();
+    let figures = [
         report.interest_specific,
         report.interest_general,
         report.equity_specific,
@@ -106,7 +94,34 @@ fn report() {
         report.total,
         report.taken,
     ];
-    hold(&[(entries.to_vec(), fields)]);
+    let fields = [&figures[..], &report.specifics, &report.generals].concat();
+    (entries.to_vec(), fields)
+}
+
+#[test]
+fn report() {
+    // Currency g, other, 270 days, 10 + g: 8% of a unit is 80,000 mils, 0.70% is 7,000.
+    // 10 to 41 are 816. Diversified, 3: 4% is 120,000, 8% is 240,000. Gold, 2: 8% is 160,000.
+    // Commodity past the last step, 1: 15%. 35 rows.
+    let currencies: Vec<[u8; 16]> = (0..32)
+        .map(|group| row(group, 3, 270, 300, 10 + i32::from(group)))
+        .collect();
+    let book = book([
+        &currencies,
+        &[row(1, 2, 0, 0, 3)],
+        &[row(0, 0, 0, 0, -2)],
+        &[row(0, 0, 36_000, 0, 1)],
+    ]);
+    let (specific, general) = (816 * 80_000, 816 * 7_000);
+    let total = specific + general + 670_000;
+    let mut by_hand = vec![
+        specific, general, 120_000, 240_000, 160_000, 150_000, total, 35,
+    ];
+    by_hand.extend((10..42).map(|amount| amount * 80_000));
+    by_hand.extend((10..42).map(|amount| amount * 7_000));
+    let read = charged(&book);
+    assert_eq!(read.0[3..], by_hand);
+    hold(&[read]);
 }
 
 /// The entries and the fields of currency 7's ladder.

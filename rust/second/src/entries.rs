@@ -16,8 +16,9 @@ impl Refusal {
 }
 
 impl Report {
-    /// The refusal, the six charges, the total and the rows taken.
-    pub fn entries(&self) -> [u64; 11] {
+    /// The refusal, the six charges, the total, the rows taken, and the charges of each
+    /// currency: 32 specific and 32 general.
+    pub fn entries(&self) -> [u64; 75] {
         let figures = [
             self.interest_specific,
             self.interest_general,
@@ -28,7 +29,8 @@ impl Report {
             self.total,
             self.taken,
         ];
-        laid_out(self.refusal, &figures)
+        let lists = [&figures[..], &self.specifics, &self.generals];
+        laid_out(self.refusal, &lists.concat())
     }
 }
 

@@ -129,6 +129,16 @@ pub fn specific(rows: &[Row]) -> i128 {
         .sum()
 }
 
+/// What a charge comes to for each currency's interest rows alone: all other rows are left
+/// out, and the rest is charged like a book of its own (document 02, P6). No rows cost
+/// nothing.
+pub fn of_each_currency(charge: impl Fn(&[Row]) -> i128, rows: &[Row]) -> [u64; GROUPS] {
+    std::array::from_fn(|group| match &currency(rows, group)[..] {
+        [] => 0,
+        own => figure(charge(own)),
+    })
+}
+
 /// The specific weight of an interest row, in basis points.
 fn specific_weight(row: &Row) -> i128 {
     match row.kind {

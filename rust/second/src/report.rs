@@ -1,11 +1,12 @@
 //! The report of a book: six charges and their total, in mils (Introduction I, 9 and
-//! 13 (b)), and how many rows were taken for them (document 02, P4).
+//! 13 (b)), how many rows were taken for them (document 02, P4), and the two interest
+//! charges of each currency (document 02, P6).
 
 use crate::book::{read, Refusal, Row};
-use crate::{commodity, figure, interest, open};
+use crate::{commodity, figure, interest, open, GROUPS};
 
-/// The refusal, the six charges, the total and the rows taken; all figures are zero on a
-/// refusal.
+/// The refusal, the six charges, the total, the rows taken and the charges of each
+/// currency; all figures are zero on a refusal.
 #[derive(Clone, Copy, Debug, Default, PartialEq, Eq)]
 pub struct Report {
     pub refusal: Refusal,
@@ -18,6 +19,10 @@ pub struct Report {
     pub total: u64,
     /// How many rows of the file the figures were made from: all, or none on a refusal.
     pub taken: u64,
+    /// The specific charge of each currency's interest rows alone.
+    pub specifics: [u64; GROUPS],
+    /// The general charge of each currency's interest rows alone.
+    pub generals: [u64; GROUPS],
 }
 
 /// The report of the rows of an accepted book.
@@ -41,6 +46,8 @@ fn report(rows: &[Row]) -> Report {
         commodity: charges[5],
         total: charges.iter().sum(),
         taken: rows.len() as u64,
+        specifics: interest::of_each_currency(interest::specific, rows),
+        generals: interest::of_each_currency(interest::general, rows),
     }
 }
 

@@ -37,12 +37,14 @@ fn each_row_of_each_class_is_taken_once() {
     }
 }
 
-/// The rows taken come after the total, and are not part of it.
+/// The rows taken come after the total, and are not part of it. No currency has a charge.
 #[test]
-fn the_last_entry() {
+fn the_entry_after_the_total() {
     let book = equity(&[row(3, 1, 0, 0, 100), row(3, 3, 0, 0, -40)]);
     let by_hand = [0, 0, 0, 0, 0, 8_800_000, 4_800_000, 0, 0, 13_600_000, 2];
-    assert_eq!(charge(&book).entries(), by_hand);
+    let entries = charge(&book).entries();
+    assert_eq!(entries[..11], by_hand);
+    assert_eq!(entries[11..], [0; 64]);
 }
 
 /// A file that is refused before its rows, at its first row, and at its last of 4,000.
@@ -68,7 +70,7 @@ fn nothing_is_taken_of_a_refused_book() {
         ((9, 3999), spoiled(3999, row(4, 0, 400, 0, 1_000_000_001))),
     ];
     for ((number, row), book) in refused {
-        let mut expected = [0; 11];
+        let mut expected = [0; 75];
         (expected[0], expected[1]) = (number, row);
         assert_eq!(charge(&book).entries(), expected);
     }

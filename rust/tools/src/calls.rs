@@ -8,8 +8,9 @@ pub trait Calls {
     fn name(&self) -> &'static str;
     /// Number, row, book.
     fn check(&self, book: &[u8], out: &mut [u64; 3]);
-    /// Number, row, book; six charges; total; rows taken.
-    fn charge(&self, book: &[u8], out: &mut [u64; 11]);
+    /// Number, row, book; six charges; total; rows taken; 32 specific interest charges by
+    /// currency; 32 general ones.
+    fn charge(&self, book: &[u8], out: &mut [u64; 75]);
     /// Number, row, book; gross, seven match sums, residual, charge.
     fn interest_ladder(&self, book: &[u8], group: usize, out: &mut [u64; 13]);
     /// Number, row, book; matches, carried, residual, charge.
@@ -28,7 +29,7 @@ impl Calls for Proved {
     fn check(&self, book: &[u8], out: &mut [u64; 3]) {
         raw::check(book, out);
     }
-    fn charge(&self, book: &[u8], out: &mut [u64; 11]) {
+    fn charge(&self, book: &[u8], out: &mut [u64; 75]) {
         raw::charge(book, out);
     }
     fn interest_ladder(&self, book: &[u8], group: usize, out: &mut [u64; 13]) {
@@ -54,7 +55,7 @@ impl Calls for Second {
         *out = second::check(book).entries();
     }
 
-    fn charge(&self, book: &[u8], out: &mut [u64; 11]) {
+    fn charge(&self, book: &[u8], out: &mut [u64; 75]) {
         *out = second::charge(book).entries();
     }
 

@@ -21,7 +21,7 @@ fn help_for_all_and_each() {
 }
 
 /// What the report of each sample has, in whole currency units unless it is shown.
-const SAMPLES: [(&str, &str); 7] = [
+const SAMPLES: [(&str, &str); 8] = [
     ("equity", "0 0 8,800 4,800 0 0 13,600"),
     ("swap", "213,280 4,580,112.500 0 0 0 0 4,793,392.500"),
     ("keyed", "0 735 0 0 0 0 735"),
@@ -32,6 +32,7 @@ const SAMPLES: [(&str, &str); 7] = [
         "mixed",
         "480,000 334,500 100,000 88,000 85,600 21,600 1,109,700",
     ),
+    ("treasury", "20,000 4,005 8,000 8,000 4,000 0 44,005"),
 ];
 
 #[test]
@@ -69,6 +70,37 @@ fn packed_samples_unpack_to_the_same_book() {
     // The sorted samples come back letter by letter.
     let text = prints(&["unpack", &packed("swap", "letters"), "-"]);
     assert_eq!(text, fs::read_to_string(sample("swap")).unwrap());
+}
+
+/// The option may stand before the book or after it, and changes none of the seven lines.
+#[test]
+fn currencies_are_listed_below_the_report() {
+    let book = packed("treasury", "currencies");
+    let plain = prints(&["report", &book]);
+    let after = prints(&["report", &book, "--currencies"]);
+    assert_eq!(prints(&["report", "--currencies", &book]), after);
+    let table = after.strip_prefix(&format!("{plain}\n")).unwrap();
+    let first: Vec<&str> = table
+        .lines()
+        .map(|line| line.split(' ').next().unwrap())
+        .collect();
+    assert_eq!(first, ["currency", "0", "1", "7", "31", "all"]);
+    // Without interest rows there is no currency to list.
+    let table = prints(&["report", &packed("equity", "currencies"), "--currencies"]);
+    let lines: Vec<&str> = table.lines().skip(8).collect();
+    let none = "all          0.000    0.000     0.000";
+    assert_eq!(lines, ["currency  specific  general  together", none]);
+}
+
+/// Catches a table of a refused book.
+#[test]
+fn a_refused_book_has_no_currencies() {
+    let bytes = fs::read(packed("treasury", "refused")).unwrap();
+    let cut = temporary("refused-treasury.book");
+    fs::write(&cut, &bytes[..bytes.len() - 1]).unwrap();
+    let plain = fails(1, &["report", &cut]);
+    assert!(plain.contains("refused 3"), "{plain}");
+    assert_eq!(fails(1, &["report", &cut, "--currencies"]), plain);
 }
 
 #[test]
@@ -169,6 +201,7 @@ fn wrong_command_lines() {
     assert!(fails(2, &["charge"]).contains("no command 'charge'"));
     assert!(fails(2, &["report"]).contains("0 files given where 1 are wanted"));
     assert!(fails(2, &["report", "--all", "x"]).contains("no option '--all'"));
+    assert!(fails(2, &["ladder", "--currencies", "x"]).contains("no option '--currencies'"));
     assert!(fails(2, &["report", &temporary("no such file")]).contains("no such file"));
     assert!(fails(2, &["bench", "--rounds", "0"]).contains("must not be 0"));
 }

@@ -20,7 +20,7 @@ extern "C" {
 }
 
 /// A result in which every entry is marked, with room for the longest.
-const MARKED: [u64; 13] = [u64::MAX; 13];
+const MARKED: [u64; 75] = [u64::MAX; 75];
 
 /// A book without rows.
 const EMPTY: [u8; 8] = [0; 8];
@@ -33,7 +33,7 @@ fn null_with_length_0_is_a_file_of_no_bytes() {
         // SAFETY, here and below: the header allows null with length 0, and every result
         // has room for its entries.
         (3, &|out| unsafe { market_risk_check(null(), 0, out) }),
-        (11, &|out| unsafe { market_risk_charge(null(), 0, out) }),
+        (75, &|out| unsafe { market_risk_charge(null(), 0, out) }),
         (13, &|out| unsafe {
             market_risk_interest_ladder(null(), 0, 7, out)
         }),

@@ -28,16 +28,18 @@ fn rows(name: &str) -> Book {
     csv::parse(&text).unwrap().book
 }
 
-/// What is printed of a sample: its report, or the ladder of one group.
+/// What is printed of a sample: its report, this with the charges of the currencies, or the
+/// ladder of one group.
 #[derive(Clone, Copy)]
 enum Print {
     Report,
+    Currencies,
     Currency(usize),
     Commodity(usize),
 }
 
-/// All prints of a sample: the report and the ladder of every group that it has, or of
-/// group 0 if it has no rows at all.
+/// All prints of a sample: the report, the currencies where there are several, and the ladder
+/// of every group that it has, or of group 0 if it has no rows at all.
 fn prints_of(book: &Book) -> Vec<Print> {
     let groups = |class: usize| {
         let groups: BTreeSet<usize> = book.classes[class]
@@ -50,6 +52,7 @@ fn prints_of(book: &Book) -> Vec<Print> {
         }
     };
     let mut all = vec![Print::Report];
+    all.extend((groups(0).len() > 1).then_some(Print::Currencies));
     all.extend(groups(0).into_iter().map(Print::Currency));
     all.extend(groups(3).into_iter().map(Print::Commodity));
     all
@@ -59,6 +62,7 @@ fn prints_of(book: &Book) -> Vec<Print> {
 fn stored_name(name: &str, print: Print) -> String {
     match print {
         Print::Report => format!("{name}.report"),
+        Print::Currencies => format!("{name}.currencies"),
         Print::Currency(group) => format!("{name}.currency-{group}"),
         Print::Commodity(group) => format!("{name}.commodity-{group}"),
     }
@@ -87,7 +91,7 @@ fn every_print_is_stored_and_nothing_else() {
         .map(|(name, _, print, _)| stored_name(name, *print))
         .collect();
     assert_eq!(names(&format!("{}/expected", samples()), ".txt"), wanted);
-    assert_eq!(wanted.len(), 28);
+    assert_eq!(wanted.len(), 36);
 }
 
 /// Catches any change of what is printed: a rate halved, a per cent, a weight, a figure.
@@ -97,6 +101,7 @@ fn the_command_prints_the_stored_texts() {
         let book = packed(&name, &stored_name(&name, print));
         let printed = match print {
             Print::Report => prints(&["report", &book]),
+            Print::Currencies => prints(&["report", &book, "--currencies"]),
             Print::Currency(n) => prints(&["ladder", &book, "--currency", &n.to_string()]),
             Print::Commodity(n) => prints(&["ladder", &book, "--commodity", &n.to_string()]),
         };
@@ -112,6 +117,7 @@ fn every_line_of_the_stored_texts_is_calculated_again() {
     for (name, book, print, text) in all() {
         let again = match print {
             Print::Report => again::report(&book.encode().unwrap()),
+            Print::Currencies => again::currencies(&book),
             Print::Currency(group) => again::interest(&book, group),
             Print::Commodity(group) => again::commodity(&book, group),
         };
@@ -121,7 +127,7 @@ fn every_line_of_the_stored_texts_is_calculated_again() {
 }
 
 /// The totals and charges, worked by hand in document 01 and in samples/README.md.
-const BY_HAND: [(&str, &str); 20] = [
+const BY_HAND: [(&str, &str); 27] = [
     ("empty.report", "0.000"),
     ("swap.report", "4,793,392.500"),
     ("swap.currency-7", "4,580,112.500"),
@@ -142,6 +148,13 @@ const BY_HAND: [(&str, &str); 20] = [
     ("steps.currency-9", "6,156.500"),
     ("steps.commodity-5", "3,276.000"),
     ("steps.report", "20,601.000"),
+    ("steps.currencies", "17,325.000"),
+    ("mixed.currencies", "814,500.000"),
+    ("treasury.currency-1", "0.000"),
+    ("treasury.currency-7", "735.000"),
+    ("treasury.currency-31", "3,270.000"),
+    ("treasury.report", "44,005.000"),
+    ("treasury.currencies", "24,005.000"),
 ];
 
 /// Catches a stored charge that both calculations would have wrong.
@@ -153,13 +166,63 @@ fn the_charges_are_those_worked_by_hand() {
             .iter()
             .find(|(of, _, print, _)| stored_name(of, *print) == name);
         let (_, _, print, text) = found.unwrap();
-        let title = if matches!(print, Print::Report) {
-            "total"
-        } else {
-            "charge"
+        let title = match print {
+            Print::Report => "total",
+            Print::Currencies => "all",
+            Print::Currency(_) | Print::Commodity(_) => "charge",
         };
         let line = text.lines().rfind(|line| line.starts_with(title)).unwrap();
         assert_eq!(line.split_whitespace().last(), Some(expected), "{name}");
+    }
+}
+
+/// The charges of each currency of two samples, in whole currency units unless it is shown,
+/// worked by hand in samples/README.md: specific, general, together.
+const CURRENCIES_BY_HAND: [(&str, &[&str]); 2] = [
+    (
+        "treasury",
+        &[
+            "0 0 0 0",
+            "1 16,000 0 16,000",
+            "7 0 735 735",
+            "31 4,000 3,270 7,270",
+            "all 20,000 4,005 24,005",
+        ],
+    ),
+    (
+        "steps",
+        &[
+            "7 0 694.650 694.650",
+            "8 701.500 172.350 873.850",
+            "9 9,600 6,156.500 15,756.500",
+            "all 10,301.500 7,023.500 17,325",
+        ],
+    ),
+];
+
+/// Catches a stored charge of a currency that both calculations would have wrong, and a
+/// plain report that has more than its seven lines.
+#[test]
+fn the_currencies_are_those_worked_by_hand() {
+    let all = all();
+    let stored = |name: String| {
+        let found = all
+            .iter()
+            .find(|(of, _, print, _)| stored_name(of, *print) == name);
+        found.unwrap().3.clone()
+    };
+    for (name, expected) in CURRENCIES_BY_HAND {
+        let text = stored(format!("{name}.currencies"));
+        let (report, table) = text.split_once("\n\n").unwrap();
+        assert_eq!(format!("{report}\n"), stored(format!("{name}.report")));
+        assert_eq!(report.lines().count(), 7);
+        let short = |line: &str| {
+            let cells = line.split_whitespace();
+            let cells: Vec<&str> = cells.map(|cell| cell.trim_end_matches(".000")).collect();
+            cells.join(" ")
+        };
+        let lines: Vec<String> = table.lines().skip(1).map(short).collect();
+        assert_eq!(lines, expected, "{name}");
     }
 }
 

@@ -1,6 +1,6 @@
-//! The command over a library that has calls taken out or miscounts rows, which it must
-//! notice. It is built a second time, over the proved archive with
-//! tests/stand_in/stand_in.c before its calls.
+//! The command over a library that has calls taken out, miscounts rows or has wrong lists of
+//! the currencies, which it must notice. It is built a second time, over the proved archive
+//! with tests/stand_in/stand_in.c before its calls.
 
 mod common;
 
@@ -18,6 +18,9 @@ const CALLS: [&str; 5] = [
     "commodity_ladder",
     "join",
 ];
+
+/// Between the name of a call and the entries that differ.
+const BY: &str = " by the proved library and by the second calculation: ";
 
 /// Where this crate lies.
 const HERE: &str = env!("CARGO_MANIFEST_DIR");
@@ -101,35 +104,49 @@ fn compare_fails_without_each_call() {
     assert!(String::from_utf8_lossy(&whole.stdout).contains(" 300 pairs equal "));
     for call in CALLS {
         let error = fails(call, &words);
-        let told = format!(
-            "\n{}: the proved library gives [0, 0, 0",
-            call.replace('_', " ")
-        );
+        let told = format!("\n{}{BY}entry ", call.replace('_', " "));
         assert!(error.contains(&told), "without {call}: {error}");
+        assert!(error.contains(" is 0 and "), "without {call}: {error}");
     }
-    assert!(fails("all", &words).contains(": the proved library gives [0, 0, 0"));
+    assert!(fails("all", &words).contains(BY));
+}
+
+/// What the command says of a charge, its first line on it.
+fn told(fault: &str) -> String {
+    let error = fails(fault, &["compare", "--seed", "1", "--count", "300"]);
+    let mut lines = error.lines();
+    let told = lines.find(|line| line.starts_with("charge"));
+    told.unwrap().to_string()
 }
 
 /// Catches a comparison that leaves out the rows taken, or looks at them in accepted books
 /// alone: the other entries of these reports are the proved library's own.
 #[test]
 fn compare_fails_with_each_wrong_count_of_rows() {
-    let words = ["compare", "--seed", "1", "--count", "300"];
-    let ends = [
-        ("none_taken", ", 0], the second calculation [0, ", ", 1]"),
-        (
-            "one_more_taken",
-            ", 1], the second calculation [0, ",
-            ", 0]",
-        ),
-        ("taken_kept", ", 1], the second calculation [", ", 0]"),
-    ];
-    for (fault, wrong, right) in ends {
-        let error = fails(fault, &words);
-        let mut lines = error.lines();
-        let told = lines.find(|line| line.starts_with("charge: ")).unwrap();
-        assert!(told.contains(wrong), "{fault}: {told}");
-        assert!(told.ends_with(right), "{fault}: {told}");
+    for (fault, wrong, right) in [
+        ("none_taken", 0, 1),
+        ("one_more_taken", 1, 0),
+        ("taken_kept", 1, 0),
+    ] {
+        let expected = format!("charge{BY}entry 10 is {wrong} and {right}");
+        assert_eq!(told(fault), expected, "{fault}");
+    }
+}
+
+/// Catches a comparison that leaves out the lists, or looks at their sums alone, or looks at
+/// them in accepted books alone.
+#[test]
+fn compare_fails_with_each_fault_of_the_lists() {
+    for (fault, first) in [
+        ("specifics_shifted", "entry 11 is 0 and "),
+        ("generals_shifted", "entry 43 is 0 and "),
+        ("lists_exchanged", "entry 11 is "),
+        ("equity_in_list", "entry 18 is "),
+        ("currency_left_out", "entry 50 is 0 and "),
+        ("entry_kept", "entry 74 is 9 and 0"),
+    ] {
+        let told = told(fault);
+        assert!(told.starts_with(&format!("charge{BY}{first}")), "{told}");
     }
 }
 
@@ -143,6 +160,42 @@ fn report_fails_with_a_wrong_count_of_rows() {
     assert!(error.contains("the file has 3 rows, the library took 0"));
     let error = fails("one_more_taken", &words);
     assert!(error.contains("the file has 3 rows, the library took 4"));
+}
+
+/// Catches a report that is printed without a look at the lists, with the option or without.
+#[test]
+fn report_fails_with_a_fault_of_the_lists() {
+    let treasury = packed("treasury", "stand-in-report");
+    let plain = ["report", &treasury];
+    let with_currencies = ["report", &treasury, "--currencies"];
+    for words in [&plain[..], &with_currencies] {
+        assert!(run("none", words).status.success());
+        for (fault, why) in [
+            (
+                "specifics_shifted",
+                "currency 2 has no interest rows, its interest specific is 16000000 mils",
+            ),
+            (
+                "generals_shifted",
+                "currency 8 has no interest rows, its interest general is 735000 mils",
+            ),
+            (
+                "lists_exchanged",
+                "interest specific is 20000000 mils, by currencies 4005000",
+            ),
+            (
+                "equity_in_list",
+                "interest specific is 20000000 mils, by currencies 28000000",
+            ),
+            (
+                "currency_left_out",
+                "interest general is 4005000 mils, by currencies 3270000",
+            ),
+        ] {
+            let error = fails(fault, words);
+            assert!(error.contains(why), "{fault}: {error}");
+        }
+    }
 }
 
 /// Catches a ladder that is drawn without a look at the library's figures.

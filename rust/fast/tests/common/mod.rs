@@ -5,7 +5,7 @@ const OLD: u64 = 0x5555;
 
 /// Compares the four calls on one book.
 pub fn compare(book: &[u8], group: usize) {
-    let (mut check, mut charge) = ([OLD; 3], [OLD; 11]);
+    let (mut check, mut charge) = ([OLD; 3], [OLD; 75]);
     let (mut interest, mut commodity) = ([OLD; 13], [OLD; 7]);
     fast::check(book, &mut check);
     fast::charge(book, &mut charge);
@@ -18,7 +18,7 @@ pub fn compare(book: &[u8], group: usize) {
     let ladder = second::commodity_ladder(book, group);
     assert_eq!(commodity, ladder.entries(), "{book:?}");
     if let Some(expert_charge) = fast::expert_charge() {
-        charge = [OLD; 11];
+        charge = [OLD; 75];
         expert_charge(book, &mut charge);
         assert_eq!(charge, second::charge(book).entries(), "{book:?}");
     }

@@ -35,7 +35,7 @@ fn book(seed: u64, rows: usize, classes: &[usize]) -> Vec<u8> {
     let shape = Shape {
         rows,
         groups: (0..32).collect(),
-        without: None,
+        without: [None; 32],
     };
     let mut book = Book::default();
     for at in 0..rows {

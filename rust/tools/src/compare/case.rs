@@ -1,8 +1,8 @@
 //! One random case: two books, a group and the length of an output.
 
 use books::damage::damage;
-use books::generate::{book, Shape};
-use books::{csv, Book, Random};
+use books::generate::{book, interest_book, Shape};
+use books::{csv, Book, Random, Row};
 use std::fmt;
 
 /// What the five calls are given.
@@ -20,7 +20,7 @@ pub struct Case {
 
 /// How many rows two books have: mostly few, rarely as many as may be joined.
 fn sizes(random: &mut Random) -> [usize; 2] {
-    if random.once_in(48) {
+    if random.once_in(42) {
         let full = [
             [4000, 0],
             [4000, 1],
@@ -58,20 +58,58 @@ fn room(random: &mut Random, joined: usize) -> usize {
     }
 }
 
+/// Two books of any rows, often damaged.
+fn any_books(random: &mut Random) -> [Vec<u8>; 2] {
+    let mut shape = Shape::new(random, 0);
+    sizes(random).map(|rows| {
+        shape.rows = rows;
+        let mut bytes = book(random, &shape).encode().expect("at most 4,000 rows");
+        let hits = [0, 0, 0, 1, 1, 2, 4][random.below(7) as usize];
+        (0..hits).for_each(|_| damage(random, &mut bytes));
+        bytes
+    })
+}
+
+/// The rows of document 01's E4, by days, long and short: its two books use zones 1 and 2,
+/// and 2 and 3. Joined, in equal parts, they cost more.
+const E4: [[(u16, u32, u32); 2]; 2] = [[(270, 75, 0), (900, 0, 30)], [(900, 30, 0), (6000, 0, 10)]];
+
+/// Puts E4's rows, up to three times as large, into two books.
+fn add_e4(random: &mut Random, books: &mut [Book; 2]) {
+    let group = random.below(32) as u8;
+    let bond = Row::default().with_group(group).with_kind(1);
+    for (book, rows) in books.iter_mut().zip(E4) {
+        let times = 1 + random.below(3) as u32;
+        let rows = rows.map(|(days, long, short)| {
+            let bond = bond.with_days(days).with_coupon(800);
+            bond.with_sides(times * long, times * short)
+        });
+        book.classes[0].extend(rows);
+    }
+}
+
+/// Two accepted books with interest rows in the same currencies, of which some use at most
+/// two zones, others all three; every second time with E4 among them.
+fn books_of_currencies(random: &mut Random) -> [Vec<u8>; 2] {
+    let mut shape = Shape::of_currencies(random, 0);
+    let mut books = [0; 2].map(|_| {
+        shape.rows = 1 + random.below(16) as usize;
+        interest_book(random, &shape)
+    });
+    if random.once_in(2) {
+        add_e4(random, &mut books);
+    }
+    books.map(|book| book.encode().expect("few rows"))
+}
+
 impl Case {
     /// The case with this number of a seed.
     pub fn new(seed: u64, number: u64) -> Case {
         let mut random = Random::of_case(seed, number);
-        let mut shape = Shape::new(&mut random, 0);
-        let [a, b] = sizes(&mut random).map(|rows| {
-            shape.rows = rows;
-            let mut bytes = book(&mut random, &shape)
-                .encode()
-                .expect("at most 4,000 rows");
-            let hits = [0, 0, 0, 1, 1, 2, 4][random.below(7) as usize];
-            (0..hits).for_each(|_| damage(&mut random, &mut bytes));
-            bytes
-        });
+        let [a, b] = match random.once_in(8) {
+            true => books_of_currencies(&mut random),
+            false => any_books(&mut random),
+        };
         Case {
             group: group(&mut random, &a),
             room: room(&mut random, (a.len() + b.len()).saturating_sub(8)),

@@ -9,11 +9,21 @@ const MARK: u64 = 0xa5a5_a5a5_a5a5_a5a5;
 /// The bytes before and after an output that must keep their values.
 const GUARD: usize = 32;
 
-/// Both results of a call, where they are not the same.
-fn unequal(call: &str, names: [&str; 2], library: &[u64], other: &[u64]) -> Option<String> {
-    let [one, two] = names;
-    let differ = library != other;
-    differ.then(|| format!("{call}: {one} gives {library:?}, {two} {other:?}"))
+/// The entries in which two results differ, if they do, with both figures.
+pub fn unequal(one: &[u64], other: &[u64]) -> Option<String> {
+    let pairs = one.iter().zip(other).enumerate();
+    let differ = pairs.filter(|(_, (one, other))| one != other);
+    let told: Vec<String> = differ
+        .map(|(at, (one, other))| format!("entry {at} is {one} and {other}"))
+        .collect();
+    (!told.is_empty()).then(|| told.join(", "))
+}
+
+/// The same of a call by two calculations.
+fn unequal_by(call: &str, names: [&str; 2], one: &[u64], other: &[u64]) -> Option<String> {
+    let [first, second] = names;
+    let entries = unequal(one, other)?;
+    Some(format!("{call} by {first} and by {second}: {entries}"))
 }
 
 /// Runs one call of both calculations and compares what they write.
@@ -28,7 +38,7 @@ fn both<const N: usize>(
         out
     });
     let names = calculations.map(|calculation| calculation.name());
-    unequal(call, names, &library, &other)
+    unequal_by(call, names, &library, &other)
 }
 
 /// The output of a join, between guards, and its result.
@@ -46,7 +56,7 @@ fn join(library: &dyn Calls, other: &dyn Calls, case: &Case) -> Option<String> {
     let (ours, result) = joined(library, case);
     let (theirs, expected) = joined(other, case);
     let names = [library.name(), other.name()];
-    unequal("join", names, &result, &expected).or_else(|| {
+    unequal_by("join", names, &result, &expected).or_else(|| {
         let at = ours.iter().zip(&theirs).position(|(one, two)| one != two)?;
         let place = at as i64 - GUARD as i64;
         let ([one, two], byte, expected) = (names, ours[at], theirs[at]);

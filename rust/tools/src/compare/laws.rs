@@ -1,10 +1,17 @@
-//! Demand 3 on one case: order, mirror and joining, by the library's own figures.
+//! Demand 3 and the charges of each currency on one case, by the library's own figures:
+//! lists that add up, order, mirror and joining.
 
 use super::case::Case;
+use super::check::unequal;
+use super::premises::{at_most_two, zones, Zones};
 use crate::calls::Calls;
 use books::{Book, Random, Row};
+use second::GROUPS;
 
-/// The names of the charges and the total, in the report's order.
+/// The entries of a report.
+type Report = [u64; 75];
+
+/// The names of the charges and the total, in the report's order, from entry 3 on.
 const FIGURES: [&str; 7] = [
     "interest specific",
     "interest general",
@@ -15,11 +22,44 @@ const FIGURES: [&str; 7] = [
     "total",
 ];
 
+/// A list of the charges of each currency: the entry of the figure that it splits, and its
+/// own first entry.
+struct List {
+    name: &'static str,
+    splits: usize,
+    first: usize,
+}
+
+const LISTS: [List; 2] = [
+    List {
+        name: "interest specific",
+        splits: 3,
+        first: 11,
+    },
+    List {
+        name: "interest general",
+        splits: 4,
+        first: 43,
+    },
+];
+
 /// The report of a book.
-fn report(calls: &dyn Calls, book: &[u8]) -> [u64; 11] {
-    let mut out = [0; 11];
+fn report(calls: &dyn Calls, book: &[u8]) -> Report {
+    let mut out = [0; 75];
     calls.charge(book, &mut out);
     out
+}
+
+/// Each list of a report sums to the figure that it splits, of a refused book too.
+fn adding_up(calls: &dyn Calls, case: &Case) -> Option<String> {
+    let report = report(calls, &case.a);
+    LISTS.iter().find_map(|list| {
+        let entries = &report[list.first..list.first + GROUPS];
+        let sum: u128 = entries.iter().map(|entry| u128::from(*entry)).sum();
+        let (name, figure) = (list.name, report[list.splits]);
+        let unequal = sum != u128::from(figure);
+        unequal.then(|| format!("{name} is {figure}, by currencies {sum}"))
+    })
 }
 
 /// A book with the rows of each class in another order.
@@ -40,12 +80,6 @@ fn mirrored(book: &Book) -> Book {
     }
 }
 
-/// Whether each currency of an accepted book uses at most two zones.
-pub fn two_zones(book: &[u8]) -> bool {
-    let zones = |group| second::zones_used(book, group).map(usize::from);
-    (0..second::GROUPS).all(|group| zones(group).iter().sum::<usize>() <= 2)
-}
-
 /// Reordered and mirrored books have the same report.
 fn order_and_mirror(calls: &dyn Calls, case: &Case) -> Option<String> {
     let book = Book::decode(&case.a)?;
@@ -60,9 +94,37 @@ fn order_and_mirror(calls: &dyn Calls, case: &Case) -> Option<String> {
         ("reordered", other),
     ];
     variants.iter().find_map(|(name, variant)| {
-        let got = report(calls, &variant.encode()?);
-        (got != expected).then(|| format!("{name}: {got:?} in the place of {expected:?}"))
+        let entries = unequal(&report(calls, &variant.encode()?), &expected)?;
+        Some(format!("{name} and as it is: {entries}"))
     })
+}
+
+/// An entry of a joined book that is more than those of the two together.
+fn dearer(name: &str, entry: usize, reports: [&Report; 3]) -> Option<String> {
+    let [whole, a, b] = reports.map(|report| report[entry]);
+    (whole > a + b).then(|| format!("joined, {name} is {whole}, more than {a} and {b} together"))
+}
+
+/// A currency that uses at most two zones in the joined book, whatever the others use, and
+/// costs more there than in the two.
+fn dearer_currency(zones: &Zones, reports: [&Report; 3]) -> Option<String> {
+    let mut currencies = (0..GROUPS).filter(|group| at_most_two(&zones[*group]));
+    currencies.find_map(|group| {
+        LISTS.iter().find_map(|list| {
+            let name = format!("{} of currency {group}", list.name);
+            dearer(&name, list.first + group, reports)
+        })
+    })
+}
+
+/// A charge or total that is more than those of the two, with at most two zones used in each
+/// currency.
+fn dearer_figure(zones: &Zones, reports: [&Report; 3]) -> Option<String> {
+    let mut figures = (3..).zip(FIGURES);
+    match zones.iter().all(at_most_two) {
+        true => figures.find_map(|(entry, name)| dearer(name, entry, reports)),
+        false => None,
+    }
 }
 
 /// A joined book has the rows of its parts and, under the zone premise, costs at most these.
@@ -82,17 +144,13 @@ fn joining(calls: &dyn Calls, case: &Case) -> Option<String> {
         let [whole, a, b] = [whole, a, b].map(|report| report[10]);
         return Some(format!("joined, {whole} rows are taken, not {a} and {b}"));
     }
-    if !two_zones(&joined) {
-        return None;
-    }
-    let dearer = (3..10).find(|at| whole[*at] > a[*at] + b[*at])?;
-    let (name, whole, a, b) = (FIGURES[dearer - 3], whole[dearer], a[dearer], b[dearer]);
-    Some(format!(
-        "joined, {name} is {whole}, more than {a} and {b} together"
-    ))
+    let (zones, reports) = (zones(&joined), [&whole, &a, &b]);
+    dearer_currency(&zones, reports).or_else(|| dearer_figure(&zones, reports))
 }
 
-/// What of demand 3 a case breaks, in words.
+/// What of them a case breaks, in words.
 pub fn broken(calls: &dyn Calls, case: &Case) -> Option<String> {
-    order_and_mirror(calls, case).or_else(|| joining(calls, case))
+    adding_up(calls, case)
+        .or_else(|| order_and_mirror(calls, case))
+        .or_else(|| joining(calls, case))
 }

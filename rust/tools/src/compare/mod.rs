@@ -3,7 +3,10 @@
 mod case;
 mod check;
 mod cuts;
+#[cfg(test)]
+mod faulty;
 mod laws;
+mod premises;
 mod run;
 mod shrink;
 #[cfg(test)]
@@ -26,11 +29,16 @@ the second calculation: all five calls, every entry of every result and every by
 every output. Demand 3 is sampled too: a reordered, mirrored, or reordered and mirrored
 book has the same report; a joined book takes as many rows as its two parts and, with at
 most two zones used in each currency, costs at most these, in each charge and the total.
+So are the charges of each currency: each list adds up to the charge that it splits, and
+a currency that itself uses at most two zones in a joined book costs at most what it cost
+in the two, whatever the other currencies use.
 
 On a difference it prints the smallest books that it can find, in hex and as CSV, and
 stops with exit status 1. It also fails when the pairs have shown too little: every
-refusal, accepted books with rows, books refused after their first row, joins made, and
-joins under the zone premise must come up in proportion to N.
+refusal, accepted books with rows, books refused after their first row, joins made, joins
+under the zone premise, currencies of both books under their own premise, these beside a
+currency with three zones, and currencies that cost more joined must come up in
+proportion to N.
 
   --seed S    the seed, 1 if not given
   --count N   how many pairs, 20000 if not given

@@ -1,6 +1,7 @@
 //! Runs with calculations that are none, or not all of one: each must fail.
 
 use super::case::Case;
+use super::premises::{at_most_two, zones};
 use super::run::{Run, DEFAULT_COUNT};
 use crate::calls::{Calls, Proved, Second};
 use crate::cli::{Args, Failure};
@@ -47,7 +48,7 @@ impl Calls for StandIn<'_> {
     fn check(&self, book: &[u8], out: &mut [u64; 3]) {
         self.answer(Call::Check, out, |out| Second.check(book, out));
     }
-    fn charge(&self, book: &[u8], out: &mut [u64; 11]) {
+    fn charge(&self, book: &[u8], out: &mut [u64; 75]) {
         self.answer(Call::Charge, out, |out| Second.charge(book, out));
     }
     fn interest_ladder(&self, book: &[u8], group: usize, out: &mut [u64; 13]) {
@@ -138,7 +139,38 @@ fn a_run_that_has_seen_too_little_fails() {
     assert!(message.contains("\nbooks refused 9: 0 where at least 150 are wanted\n"));
     assert!(message.contains("\nbooks accepted with rows: 0 where"));
     assert!(message.contains("\nbooks refused after their first row: 0 where"));
+    assert!(message.contains("\ncurrencies joined under their zone premise: 0 where"));
     assert!(!message.contains("books accepted: "), "{message}");
     empty.count = 50;
     assert!(empty.outcome().is_ok());
+}
+
+/// A case of a seed, but none in which a currency of both books together uses three zones.
+fn without_three(seed: u64, number: u64) -> Case {
+    let cases = (0..).map(|turn| Case::new(seed + turn, number));
+    let two = |case: &Case| {
+        let mut joined = vec![0; (case.a.len() + case.b.len()).saturating_sub(8)];
+        second::join(&case.a, &case.b, &mut joined);
+        zones(&joined).iter().all(at_most_two)
+    };
+    cases.into_iter().find(two).expect("most cases use two")
+}
+
+/// Catches a run that cannot tell a currency's own premise from that of all, or from none:
+/// no currency has stood beside one with three zones, and none was dearer when joined.
+#[test]
+fn a_run_without_three_zones_fails() {
+    let none = StandIn {
+        without: &[],
+        zeros: true,
+    };
+    let mut two = run(&none, &Second, 4_000);
+    two.cases = without_three;
+    let message = failure(&two);
+    let lacking: Vec<&str> = message.lines().skip(1).collect();
+    let expected = [
+        "currencies joined beside one with three zones: 0 where at least 110 are wanted",
+        "currencies dearer when joined: 0 where at least 50 are wanted",
+    ];
+    assert_eq!(lacking, expected);
 }

@@ -1,7 +1,7 @@
 //! What a run has seen, so that it can be told from one that compared nothing.
 
 use super::case::Case;
-use super::laws::two_zones;
+use super::premises::Premises;
 use std::fmt;
 
 /// Counts of books, refusals and joins.
@@ -18,21 +18,26 @@ pub struct Tally {
     /// Joins by the number of their refusal; 0 counts those that were made.
     pub joins: [u64; 13],
     pub of_second: u64,
-    pub premise: u64,
+    pub premises: Premises,
 }
 
 /// What 20,000 cases must show at least: about a third of what they do show.
 const LEAST: Tally = Tally {
-    accepted: 3_500,
-    with_rows: 2_900,
-    after_first: 1_250,
-    refused: [0, 80, 150, 800, 400, 300, 300, 300, 400, 150],
-    ladder_refused: 800,
+    accepted: 3_900,
+    with_rows: 3_400,
+    after_first: 1_100,
+    refused: [0, 75, 150, 740, 340, 270, 240, 300, 360, 150],
+    ladder_refused: 770,
     joins: [
-        1_200, 130, 270, 1_300, 600, 500, 450, 550, 650, 300, 0, 20, 600,
+        1_600, 115, 240, 1_150, 520, 400, 380, 500, 560, 260, 0, 20, 800,
     ],
-    of_second: 1_600,
-    premise: 1_200,
+    of_second: 1_450,
+    premises: Premises {
+        joins: 1_250,
+        currencies: 1_150,
+        beside_three: 550,
+        dearer: 250,
+    },
 };
 
 /// The cases that `LEAST` is about.
@@ -57,8 +62,9 @@ impl Tally {
         self.joins[joined.refusal.number as usize] += 1;
         self.of_second += joined.refusal.book;
         out.truncate(joined.length as usize);
-        let made = joined.refusal.accepted();
-        self.premise += u64::from(made && two_zones(&out));
+        if joined.refusal.accepted() {
+            self.premises.count([&case.a, &case.b, &out]);
+        }
     }
 
     /// Every count beside its name.
@@ -77,9 +83,9 @@ impl Tally {
             ),
             ("ladders refused 10".to_string(), self.ladder_refused),
             ("joins made".to_string(), self.joins[0]),
-            ("joins under the zone premise".to_string(), self.premise),
             ("joins refused for the second book".into(), self.of_second),
         ];
+        counts.extend(self.premises.named());
         counts.extend(numbered("books refused", &self.refused));
         counts.extend(numbered("joins refused", &self.joins));
         counts
@@ -115,11 +121,7 @@ impl fmt::Display for Tally {
             self.with_rows, self.after_first
         )?;
         writeln!(out, "ladders refused 10: {}", self.ladder_refused)?;
-        writeln!(
-            out,
-            "joins made {}, of these with at most two zones in each currency {}",
-            self.joins[0], self.premise
-        )?;
+        writeln!(out, "joins made {}, {}", self.joins[0], self.premises)?;
         writeln!(
             out,
             "joins refused {not_joined}, for the second book {}",
@@ -156,10 +158,25 @@ mod tests {
         );
         alone(|tally| &mut tally.ladder_refused, "ladders refused 10");
         alone(|tally| &mut tally.joins[0], "joins made");
-        alone(|tally| &mut tally.premise, "joins under the zone premise");
         alone(
             |tally| &mut tally.of_second,
             "joins refused for the second book",
+        );
+        alone(
+            |tally| &mut tally.premises.joins,
+            "joins under the zone premise",
+        );
+        alone(
+            |tally| &mut tally.premises.currencies,
+            "currencies joined under their zone premise",
+        );
+        alone(
+            |tally| &mut tally.premises.beside_three,
+            "currencies joined beside one with three zones",
+        );
+        alone(
+            |tally| &mut tally.premises.dearer,
+            "currencies dearer when joined",
         );
         for number in 1..=9 {
             let lacking = one_short(|tally| &mut tally.refused[number]);
@@ -175,12 +192,12 @@ mod tests {
     #[test]
     fn minimums_follow_the_count() {
         let nothing = Tally::default();
-        assert_eq!(nothing.lacking(20_000).len(), 7 + 9 + 11);
+        assert_eq!(nothing.lacking(20_000).len(), 10 + 9 + 11);
         assert!(LEAST.lacking(20_100).len() > 10);
         let half = nothing.lacking(10_000);
         assert!(half.contains(&"joins refused 11: 0 where at least 10 are wanted".to_string()));
         // Few cases may miss the rarest, and very few may miss anything.
-        assert_eq!(nothing.lacking(9_999).len(), 7 + 9 + 10);
-        assert_eq!(nothing.lacking(57), [""; 0]);
+        assert_eq!(nothing.lacking(9_999).len(), 10 + 9 + 10);
+        assert_eq!(nothing.lacking(51), [""; 0]);
     }
 }

@@ -1,92 +1,14 @@
 //! The comparison finds faults, and finds small books for them.
 
 use super::case::Case;
+use super::faulty::{Fault, Faulty};
 use super::run::Run;
 use super::{check, laws};
-use crate::calls::{Calls, Second};
+use crate::calls::Second;
+use books::{Book, Row};
 
-/// A calculation with one fault.
-#[derive(Clone, Copy, PartialEq)]
-enum Fault {
-    None,
-    /// A commodity charge is one mil too high when much is carried.
-    Carried,
-    /// The report's last entry is not written.
-    Unwritten,
-    /// No row is said to be taken.
-    NoneTaken,
-    /// One row too many is said to be taken.
-    OneMoreTaken,
-    /// The rows before a bad one are still said to be taken.
-    TakenKept,
-    /// Each row is taken twice.
-    TakenTwice,
-    /// Join writes one byte past the joined book.
-    PastTheEnd,
-    /// A refused join writes its first byte.
-    RefusedWrites,
-    /// The charge looks at which row comes first.
-    Order,
-    /// The charge looks at which side is long.
-    Side,
-    /// The charge of many rows is dearer than that of their parts.
-    Dear,
-}
-
-struct Faulty(Fault);
-
-impl Calls for Faulty {
-    fn name(&self) -> &'static str {
-        "a faulty calculation"
-    }
-
-    fn check(&self, book: &[u8], out: &mut [u64; 3]) {
-        Second.check(book, out);
-    }
-
-    fn charge(&self, book: &[u8], out: &mut [u64; 11]) {
-        let last = out[10];
-        Second.charge(book, out);
-        if out[0] != 0 && self.0 == Fault::TakenKept {
-            out[10] = out[1];
-        }
-        if out[0] != 0 || book.len() < 24 {
-            return;
-        }
-        match self.0 {
-            Fault::Unwritten => out[10] = last,
-            Fault::NoneTaken => out[10] = 0,
-            Fault::OneMoreTaken => out[10] += 1,
-            Fault::TakenTwice => out[10] *= 2,
-            Fault::Order => out[3] += u64::from(book[14]),
-            Fault::Side => out[3] += u64::from(book[16]),
-            Fault::Dear => out[9] += book.len() as u64 * book.len() as u64,
-            _ => (),
-        }
-    }
-
-    fn interest_ladder(&self, book: &[u8], group: usize, out: &mut [u64; 13]) {
-        Second.interest_ladder(book, group, out);
-    }
-
-    fn commodity_ladder(&self, book: &[u8], group: usize, out: &mut [u64; 7]) {
-        Second.commodity_ladder(book, group, out);
-        if self.0 == Fault::Carried && out[4] > 1000 {
-            out[6] += 1;
-        }
-    }
-
-    fn join(&self, a: &[u8], b: &[u8], out: &mut [u8], result: &mut [u64; 4]) {
-        Second.join(a, b, out, result);
-        let length = result[3] as usize;
-        if self.0 == Fault::PastTheEnd && result[0] == 0 && length < out.len() {
-            out[length] ^= 1;
-        }
-        if self.0 == Fault::RefusedWrites && result[0] == 12 && !out.is_empty() {
-            out[0] ^= 1;
-        }
-    }
-}
+/// How a difference of a faulty charge is told.
+const CHARGE: &str = "charge by a faulty calculation and by the second calculation";
 
 /// A faulty calculation against the second one.
 fn run(library: &Faulty) -> Run<'_> {
@@ -127,6 +49,17 @@ fn every_fault_is_found() {
         Fault::Order,
         Fault::Side,
         Fault::Dear,
+        Fault::SpecificsShifted,
+        Fault::GeneralsShifted,
+        Fault::ListsExchanged,
+        Fault::LastLeftOut,
+        Fault::EquityInList,
+        Fault::SpecificKept,
+        Fault::GeneralKept,
+        Fault::DearSpecific,
+        Fault::DearGeneral,
+        Fault::OrderInList,
+        Fault::SideInList,
     ];
     assert!(faults.iter().all(|fault| found(*fault).is_some()));
 }
@@ -138,6 +71,25 @@ fn the_laws_alone_find_what_the_figures_of_one_book_cannot() {
         (Fault::Side, "mirrored"),
         (Fault::Dear, "joined, total is"),
         (Fault::OneMoreTaken, " rows are taken, not "),
+        (Fault::ListsExchanged, "interest specific is "),
+        (Fault::LastLeftOut, ", by currencies "),
+        (Fault::EquityInList, "interest specific is "),
+        (
+            Fault::SpecificKept,
+            "interest specific is 0, by currencies 5",
+        ),
+        (Fault::GeneralKept, "interest general is 0, by currencies 5"),
+        (
+            Fault::GeneralsShifted,
+            "joined, interest general of currency ",
+        ),
+        (
+            Fault::DearSpecific,
+            "joined, interest specific of currency ",
+        ),
+        (Fault::DearGeneral, "joined, interest general of currency "),
+        (Fault::OrderInList, "reordered and mirrored and as it is: "),
+        (Fault::SideInList, "mirrored and as it is: "),
     ] {
         let broken = |number| laws::broken(&Faulty(fault), &Case::new(1, number));
         let first = (0..3_000)
@@ -153,7 +105,7 @@ fn a_difference_is_shown_with_a_small_book() {
     assert!(check::difference(&Faulty(Fault::Carried), &Second, &case).is_some());
     let text = run(&Faulty(Fault::Carried)).explain(&case, number);
     assert!(text.starts_with(&format!(
-        "pair {number} of seed 1 differs\ncommodity ladder: "
+        "pair {number} of seed 1 differs\ncommodity ladder by a faulty calculation and by "
     )));
     assert!(
         text.contains("group 0, output of 0 bytes\nbook A, 24 bytes: "),
@@ -174,11 +126,88 @@ fn wrong_rows_taken_are_shown_with_as_few_rows_as_can_be() {
     for (fault, [row, wrong, right]) in faults {
         let (number, case) = found(fault).unwrap();
         let text = run(&Faulty(fault)).explain(&case, number);
-        let what = text.lines().nth(1).unwrap();
-        assert!(what.starts_with("charge: "), "{text}");
-        assert!(what.contains(&format!(", {wrong}], the second")), "{text}");
-        assert!(what.ends_with(&format!(", {right}]")), "{text}");
+        let expected = format!("{CHARGE}: entry 10 is {wrong} and {right}");
+        assert_eq!(text.lines().nth(1), Some(&expected[..]), "{text}");
         let bytes = 24 + 16 * row;
         assert!(text.contains(&format!("book A, {bytes} bytes: ")), "{text}");
+    }
+}
+
+/// Catches a comparison that leaves the lists out, or looks at their sums alone.
+#[test]
+fn wrong_lists_are_shown_with_as_few_rows_as_can_be() {
+    let faults = [
+        (
+            Fault::SpecificsShifted,
+            24,
+            "entry 11 is 0 and ",
+            ", entry 12 is ",
+        ),
+        (
+            Fault::GeneralsShifted,
+            24,
+            "entry 43 is 0 and ",
+            ", entry 44 is ",
+        ),
+        (Fault::ListsExchanged, 24, "entry 11 is ", ", entry 43 is "),
+        (Fault::EquityInList, 24, "entry 11 is ", " and 0"),
+        (Fault::SpecificKept, 0, "entry 11 is 5 and 0", ""),
+        (Fault::GeneralKept, 0, "entry 74 is 5 and 0", ""),
+    ];
+    for (fault, bytes, first, next) in faults {
+        let (number, case) = found(fault).unwrap();
+        let text = run(&Faulty(fault)).explain(&case, number);
+        let what = text.lines().nth(1).unwrap();
+        assert!(what.starts_with(&format!("{CHARGE}: {first}")), "{text}");
+        assert!(what.contains(next), "{text}");
+        assert!(text.contains(&format!("book A, {bytes} bytes: ")), "{text}");
+    }
+}
+
+/// A case of two books.
+fn case(a: &[Row], b: &[Row]) -> Case {
+    let book = |rows: &[Row]| {
+        let mut book = Book::default();
+        book.classes[0] = rows.to_vec();
+        book.encode().unwrap()
+    };
+    Case {
+        a: book(a),
+        b: book(b),
+        group: 0,
+        room: 1_000,
+        order: 0,
+    }
+}
+
+/// Catches a premise that is taken of another currency, or of none: E4 in currency 7 uses
+/// three zones when joined and costs more than in the two; beside it one uses two.
+#[test]
+fn a_currency_with_three_zones_may_cost_more() {
+    let row = Row::default().with_kind(1).with_coupon(800);
+    let bond = |group, days, long, short| {
+        let row = row.with_group(group).with_days(days);
+        row.with_sides(long, short)
+    };
+    for other in [0, 6, 8, 31] {
+        let a = [
+            bond(7, 270, 75, 0),
+            bond(7, 900, 0, 30),
+            bond(other, 270, 75, 0),
+        ];
+        let b = [
+            bond(7, 900, 30, 0),
+            bond(7, 6000, 0, 10),
+            bond(other, 900, 0, 30),
+        ];
+        let case = case(&a, &b);
+        let generals = [&case.a, &case.b].map(|book| second::charge(book).generals[7]);
+        assert_eq!(generals, [210_000; 2]);
+        let mut joined = vec![0; case.a.len() + case.b.len() - 8];
+        assert!(second::join(&case.a, &case.b, &mut joined)
+            .refusal
+            .accepted());
+        assert_eq!(second::charge(&joined).generals[7], 577_500);
+        assert_eq!(laws::broken(&Second, &case), None);
     }
 }

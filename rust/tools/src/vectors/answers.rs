@@ -15,7 +15,7 @@ fn checksum(bytes: &[u8]) -> u64 {
 /// The name of a call and its figures.
 fn answer(case: &Case) -> (&'static str, Vec<u64>) {
     let book = &case.book;
-    let (mut check, mut charge, mut result) = ([0; 3], [0; 11], [0; 4]);
+    let (mut check, mut charge, mut result) = ([0; 3], [0; 75], [0; 4]);
     let (mut interest, mut commodity) = ([0; 13], [0; 7]);
     match &case.call {
         Call::Check => {
@@ -83,10 +83,10 @@ mod tests {
             call(Call::CommodityLadder(3), &book),
             join(&[0; 8], &[0; 8], 8),
         ];
-        let sum = checksum(&[0; 8]);
+        let (sum, lists) = (checksum(&[0; 8]), " 0".repeat(64));
         let expected = format!(
             "check 1 0 0\n\
-             charge 0 0 0 0 0 8800000 4800000 0 0 13600000 2\n\
+             charge 0 0 0 0 0 8800000 4800000 0 0 13600000 2{lists}\n\
              interest-ladder 10 0 0 0 0 0 0 0 0 0 0 0 0\n\
              commodity-ladder 0 0 0 0 0 0 0\n\
              join 0 0 0 8 {sum}\n"

@@ -123,7 +123,8 @@ mod tests {
         for (book, (number, row)) in books.iter().zip(places) {
             assert_eq!(book.len(), 64_008);
             let line = lines(&[call(Call::Charge, book)]);
-            assert_eq!(line, format!("charge {number} {row} 0 0 0 0 0 0 0 0 0\n"));
+            let zeros = " 0".repeat(73);
+            assert_eq!(line, format!("charge {number} {row}{zeros}\n"));
         }
     }
 
@@ -133,8 +134,8 @@ mod tests {
         let line = lines(&[call(Call::Charge, &bytes(&mixed()))]);
         let figures: Vec<&str> = line.split_whitespace().collect();
         assert_eq!(figures[..4], ["charge", "0", "0", "0"]);
-        assert_eq!(figures.len(), 12);
-        assert!(!figures[4..].contains(&"0"), "{line}");
+        assert_eq!(figures.len(), 76);
+        assert!(!figures[4..12].contains(&"0"), "{line}");
         assert_eq!(figures[11], "4000");
         let stored = cases();
         let charged = |book: &[u8]| stored.contains(&call(Call::Charge, book));

@@ -3,6 +3,7 @@
 mod answers;
 mod bands;
 mod build;
+mod currencies;
 mod faults;
 mod full;
 mod joins;
@@ -45,6 +46,7 @@ fn cases(seed: u64) -> Vec<Case> {
         ladders::cases(),
         joins::cases(),
         full::cases(),
+        currencies::cases(),
         random::cases(seed),
     ]
     .concat()

@@ -4,7 +4,8 @@
 mod commodity;
 mod interest;
 
-use books::Row;
+use books::{Book, Row};
+use std::collections::BTreeSet;
 
 pub use commodity::commodity;
 pub use interest::interest;
@@ -61,4 +62,39 @@ pub fn report(book: &[u8]) -> Vec<String> {
     ];
     let line = |(name, value): (&str, u64)| format!("{name} {}", mils(value));
     lines.map(line).to_vec()
+}
+
+/// The two interest charges of a book of some interest rows, and nothing else.
+fn interest_charges(rows: Vec<Row>) -> [u64; 2] {
+    let mut book = Book::default();
+    book.classes[0] = rows;
+    let report = second::charge(&book.encode().unwrap());
+    [report.interest_specific, report.interest_general]
+}
+
+/// The lines of a report with its currencies: each is charged as a book of its own, and the
+/// last line is that of the whole book.
+pub fn currencies(book: &Book) -> Vec<String> {
+    let rows = &book.classes[0];
+    let line = |name: String, rows: Vec<Row>| {
+        let [specific, general] = interest_charges(rows);
+        let figures = [specific, general, specific + general].map(mils);
+        format!("{name} {}", figures.join(" "))
+    };
+    let own = |group: u8| {
+        rows.iter()
+            .filter(|row| row.group == group)
+            .copied()
+            .collect()
+    };
+    let groups: BTreeSet<u8> = rows.iter().map(|row| row.group).collect();
+    let mut lines = report(&book.encode().unwrap());
+    lines.extend(["".into(), "currency specific general together".into()]);
+    lines.extend(
+        groups
+            .into_iter()
+            .map(|group| line(group.to_string(), own(group))),
+    );
+    lines.push(line("all".into(), rows.clone()));
+    lines
 }

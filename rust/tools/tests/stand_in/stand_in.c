@@ -1,7 +1,7 @@
 /* The proved library with some calls taken out: STAND_IN names one of them, or is "all".
  * A call that is taken out writes zeros and no output. STAND_IN may also name a wrong count
- * of the rows taken by a charge. The archive's own calls have other names here, proved_check
- * and so on. */
+ * of the rows taken by a charge, or a fault of its lists of the currencies. The archive's own
+ * calls have other names here, proved_check and so on. */
 #include "market_risk.h"
 
 #include <stdlib.h>
@@ -29,20 +29,44 @@ static int taken_out(const char *call, uint64_t *out, size_t entries) {
 
 /* Makes a report's count of rows wrong: never any, one too many, or on a refusal those
  * before the bad row. Every other entry stays as it is. */
-static void miscount(uint64_t out[11]) {
+static void miscount(uint64_t out[75]) {
     int refused = out[0] != 0;
     if (named("none_taken")) out[10] = 0;
     if (named("one_more_taken") && !refused) out[10] += 1;
     if (named("taken_kept") && refused) out[10] = out[1];
 }
 
+/* Moves each entry of a list to the next currency, and the last one to the first. */
+static void shift(uint64_t list[32]) {
+    uint64_t last = list[31];
+    memmove(list + 1, list, 31 * sizeof *list);
+    list[0] = last;
+}
+
+/* Makes a report's lists of the currencies wrong: one shifted by one, both exchanged, one
+ * with equity's charge in it, without a currency, or with an entry on a refusal. */
+static void mislist(uint64_t out[75]) {
+    uint64_t *specifics = out + 11, *generals = out + 43, kept[32];
+    if (named("specifics_shifted")) shift(specifics);
+    if (named("generals_shifted")) shift(generals);
+    if (named("lists_exchanged")) {
+        memcpy(kept, specifics, sizeof kept);
+        memcpy(specifics, generals, sizeof kept);
+        memcpy(generals, kept, sizeof kept);
+    }
+    if (named("equity_in_list")) specifics[7] += out[5];
+    if (named("currency_left_out")) generals[7] = 0;
+    if (named("entry_kept") && out[0] != 0) generals[31] = 9;
+}
+
 void market_risk_check(const uint8_t *book, size_t len, uint64_t out[3]) {
     if (!taken_out("check", out, 3)) proved_check(book, len, out);
 }
 
-void market_risk_charge(const uint8_t *book, size_t len, uint64_t out[11]) {
-    if (!taken_out("charge", out, 11)) proved_charge(book, len, out);
+void market_risk_charge(const uint8_t *book, size_t len, uint64_t out[75]) {
+    if (!taken_out("charge", out, 75)) proved_charge(book, len, out);
     miscount(out);
+    mislist(out);
 }
 
 void market_risk_interest_ladder(const uint8_t *book, size_t len, size_t group,

@@ -1,5 +1,5 @@
--- `charges::general::interest_general` meets its contract: the loop keeps the sum of the ladders so far; a currency without rows costs nothing.
-use mathlib.Core.Path.{_≡_, ap, _∙_}
+-- `charges::general::interest_generals` meets its contract: the loop keeps the table of the ladders' charges so far; a currency without rows costs nothing.
+use mathlib.Core.Path.{_≡_, ap}
 use mathlib.Core.List.{List}
 use Prim.Native.Nat.{ℕ, _-_, _*_, _<_, _≤_}
 use native.Mathlib.Omega.{arith}
@@ -14,9 +14,9 @@ use Rattle.ladder.proofs.AddsUp.{charge-within, standard-accepted}
 use Rattle.ladder.proofs.Bounds.{weighted-gross}
 use Rattle.charges.specs.Inner.Slots.{groupCount}
 use Rattle.charges.specs.Inner.Tables.{mostGross, bandsFrom, grossFrom, weightedFrom, currencyAt}
-use Rattle.charges.proofs.Listing.{FrontSum, front-none, front-next, front-room, front-all, used-sum, used-within, used-group}
-use Rattle.charges.proofs.general.interest_general.Statement.{statement}
-use Rattle.charges.proofs.general.interest_general.Tie as tie
+use Rattle.charges.proofs.Listing.{FrontTable, fronted-none, fronted-next, fronted-room, used-table, used-within, used-group}
+use Rattle.charges.proofs.general.interest_generals.Statement.{statement}
+use Rattle.charges.proofs.general.interest_generals.Tie as tie
 
 abbrev cost : List ℕ → List ℕ → ℕ → ℕ
 cost longs shorts g = interestFigures (standardTable .percents) (weightedFrom standardTable longs shorts (currencyAt g)) .charge
@@ -35,13 +35,13 @@ rate longs shorts g =
     )
 
 abbrev Inv-loop : tie.InvT-loop
-Inv-loop longs shorts rows list many charge₀ i₀ charge i = FrontSum (cost longs shorts) list many charge i
+Inv-loop longs shorts rows list many charges₀ i₀ charges i = FrontTable groupCount (cost longs shorts) list many charges i
 
 abbrev μ-loop : tie.MeasureT-loop
-μ-loop longs shorts rows list many charge₀ i₀ charge i = many - i
+μ-loop longs shorts rows list many charges₀ i₀ charges i = many - i
 
 loop-holds : tie.Need-loop-holds Inv-loop μ-loop
-loop-holds c = front-none _ _ _
+loop-holds c = fronted-none _ _ _ _
 
 rated : (start : tie.Start Inv-loop μ-loop)
     → Rated (cost (start .args .longs .now) (start .args .shorts .now)) (size (start .args .longs .now) (start .args .shorts .now)) 200000 mostGross groupCount
@@ -54,55 +54,63 @@ sized c =
     omega (arith, c .used-groups .ensures .few)
 
 -- what stands in the list is a group
-here : (at : tie.After-interest-figures-arg2 Inv-loop μ-loop)
-    → getD (at .before .before .before .before .before .used-groups .result .list) (at .before .before .before .loop .i) 0 < groupCount
+here : (at : tie.In-loop Inv-loop μ-loop) → getD (at .before .before .before .used-groups .result .list) (at .before .loop .i) 0 < groupCount
 here at =
-    let listed = at .before .before .before .before .before in
-    used-group _ (listed .used-groups .result) (listed .used-groups .ensures) _ (at .before .before .loop-test .taken) (sized listed)
+    let listed = at .before .before .before in
+    used-group _ (listed .used-groups .result) (listed .used-groups .ensures) _ (at .loop-test .taken) (sized listed)
 
-array-read-interest-figures : tie.Need-array-read-interest-figures Inv-loop μ-loop
-array-read-interest-figures c = omega (arith, c .before .before .before .before .before .used-groups .ensures .few, c .before .before .loop-test .taken)
+array-read-group : tie.Need-array-read-group Inv-loop μ-loop
+array-read-group c = omega (arith, c .before .before .before .used-groups .ensures .few, c .loop-test .taken)
 
-mul-interest-figures-2 : tie.Need-mul-interest-figures-2 Inv-loop μ-loop
-mul-interest-figures-2 c = omega (arith, here c)
+mul-interest-figures : tie.Need-mul-interest-figures Inv-loop μ-loop
+mul-interest-figures c = omega (arith, here (c .before .before))
 
 interest-figures-requires : tie.Need-interest-figures-requires Inv-loop μ-loop
 interest-figures-requires c κs =
-    let start = c .before .before .before .before .before .before in
-    (omega (arith, here c, start .pre .0), omega (arith, here c, start .pre .0), rated-size _ _ _ _ _ (rated start) _ (here c))
+    let at = c .before .before in
+    let start = at .before .before .before .before in
+    (omega (arith, here at, start .pre .0), omega (arith, here at, start .pre .0), rated-size _ _ _ _ _ (rated start) _ (here at))
 
--- what was added is the cost of the group
+mul-charges : tie.Need-mul-charges Inv-loop μ-loop
+mul-charges c = omega (arith, here (c .before .before .before))
+
+array-read-charges : tie.Need-array-read-charges Inv-loop μ-loop
+array-read-charges c = let at = c .before .before .before in omega (arith, here at, at .loop-test .taken, at .before .before .before .used-groups .ensures .few)
+
+-- what is added is the charge of the group
 added : (c : tie.After-struct-known Inv-loop μ-loop)
     → (let start = c .before .before .before .before .before .before .before .before in
     let list = c .before .before .before .before .before .before .before .used-groups .result .list in
     c .before .interest-figures .result .charge ≡ cost (start .args .longs .now) (start .args .shorts .now) (getD list (c .before .before .before .before .before .loop .i) 0))
 added c = ap (λ figures. figures .charge) (c .before .interest-figures .ensures)
 
-add-charge : tie.Need-add-charge Inv-loop μ-loop
-add-charge c =
-    let at-loop = c .before .before .before .before .before in
-    let listed = at-loop .before .before in
+add-charges : tie.Need-add-charges Inv-loop μ-loop
+add-charges c =
+    let at = c .before .before .before .before in
+    let listed = at .before .before .before in
     let start = listed .before in
     omega (
       arith,
-      front-room _ _ _ _ _ _ (at-loop .loop .inv) (c .before .before .before .before .loop-test .taken) (sized listed) (added c),
+      fronted-room _ _ _ _ _ _ _ (at .before .loop .inv) (at .loop-test .taken) (sized listed) (added c) (here at),
       used-within _ _ _ _ (rated start) _ (listed .used-groups .result) (listed .used-groups .ensures) (start .pre .1 .1),
     )
 
+array-write-charges : tie.Need-array-write-charges Inv-loop μ-loop
+array-write-charges c = let at = c .before .before .before .before in omega (arith, here at, at .loop-test .taken, at .before .before .before .used-groups .ensures .few)
+
 loop-again : tie.Need-loop-again Inv-loop μ-loop
 loop-again c =
-    let at-loop = c .before .before .before .before .before in
-    front-next _ _ _ _ _ _ (at-loop .loop .inv) (c .before .before .before .before .loop-test .taken) (sized (at-loop .before .before)) (added c)
+    let at = c .before .before .before .before in
+    fronted-next _ _ _ _ _ _ _ (at .before .loop .inv) (at .loop-test .taken) (sized (at .before .before .before)) (added c)
 
 returns : tie.Need-returns Inv-loop μ-loop
 returns c =
     let listed = c .before .before .before in
     let start = listed .before in
-    front-all _ _ _ _ _ (c .before .loop .inv) (c .loop-test .left)
-    ∙ used-sum _ _ _ _ (rated start) _ (listed .used-groups .result) (listed .used-groups .ensures) (start .pre .1 .1)
+    used-table _ _ _ _ (rated start) _ (listed .used-groups .result) (listed .used-groups .ensures) (start .pre .1 .1) _ _ (c .before .loop .inv) (c .loop-test .left)
 
-pub interest-general-spec : {M : Type 1} → statement M
-interest-general-spec =
+pub interest-generals-spec : {M : Type 1} → statement M
+interest-generals-spec =
     tie.close
     (tie.spec
     Inv-loop
@@ -110,10 +118,13 @@ interest-general-spec =
     (λ c. search needs)
     loop-holds
     (λ c. search needs)
-    array-read-interest-figures
-    mul-interest-figures-2
+    array-read-group
+    mul-interest-figures
     interest-figures-requires
-    add-charge
+    mul-charges
+    array-read-charges
+    add-charges
+    array-write-charges
     (λ c. search needs)
     (λ c. search needs)
     loop-again

@@ -1,57 +1,9 @@
-//! `report`: the charges of a book, or why it is refused.
+//! A refusal in words.
 
-use crate::cli::{no, Args, Command, Outcome};
-use crate::files::{input, print, read_book};
-use crate::text::{mils, table, whole};
+use crate::text::whole;
 use books::names::{kind_name, kinds, CLASS_NAMES};
 use books::{Book, Row};
-use market_risk::{Refusal, Report};
-
-pub const COMMAND: Command = Command {
-    name: "report",
-    brief: "the six charges of a book and their total",
-    help: "market-risk report BOOK
-
-Prints the six charges of a book and their total in currency units, to the mil.
-A refused book is explained in words, with the fields of its row, and the exit
-status is 1. The command fails too if the library took another number of rows than the
-file has, or if its six charges do not add up to its total.
-",
-    options: &[],
-    flags: &[],
-    run,
-};
-
-/// The report as a table.
-fn figures(report: &Report) -> String {
-    let lines = [
-        ("interest specific", report.interest_specific),
-        ("interest general", report.interest_general),
-        ("equity specific", report.equity_specific),
-        ("equity general", report.equity_general),
-        ("foreign exchange", report.exchange),
-        ("commodity", report.commodity),
-        ("total", report.total),
-    ];
-    let cells = |(name, value): &(&str, u64)| vec![name.to_string(), mils(*value)];
-    table(&lines.iter().map(cells).collect::<Vec<_>>())
-}
-
-/// Why a report cannot be of the file: its rows taken and its total, counted again.
-fn doubt(bytes: &[u8], report: &Report) -> Option<String> {
-    let rows = Book::decode(bytes).unwrap_or_default().rows() as u64;
-    if report.taken != rows {
-        let taken = report.taken;
-        return Some(format!(
-            "the file has {rows} rows, the library took {taken}"
-        ));
-    }
-    let interest = report.interest_specific + report.interest_general;
-    let equity = report.equity_specific + report.equity_general;
-    let sum = interest + equity + report.exchange + report.commodity;
-    let total = report.total;
-    (total != sum).then(|| format!("the six charges are {sum} mils, the library's total {total}"))
-}
+use market_risk::Refusal;
 
 /// What the refused field of a row may be.
 fn allowed(number: u64, class: usize) -> String {
@@ -109,21 +61,6 @@ pub fn explain(bytes: &[u8], refusal: &Refusal) -> String {
     format!("{refusal}\n{more}")
 }
 
-fn run(args: &Args) -> Outcome {
-    let [path] = args.files()?;
-    let bytes = read_book(path)?;
-    match market_risk::charge(&bytes) {
-        Ok(report) => match doubt(&bytes, &report) {
-            None => print(&figures(&report)),
-            Some(why) => Err(no(format!("{}: {why}", input(path)))),
-        },
-        Err(refusal) => {
-            let why = explain(&bytes, &refusal);
-            Err(no(format!("{}: {why}", input(path))))
-        }
-    }
-}
-
 #[cfg(test)]
 mod tests {
     use super::*;
@@ -169,33 +106,5 @@ mod tests {
             explain(&bytes, &refusal),
             "refused 10: ladder group over 31"
         );
-    }
-
-    #[test]
-    fn a_total_that_is_not_the_sum_is_doubted() {
-        let bytes = Book::default().encode().unwrap();
-        let mut report = market_risk::charge(&bytes).unwrap();
-        assert_eq!(doubt(&bytes, &report), None);
-        report.commodity = 5;
-        let why = "the six charges are 5 mils, the library's total 0";
-        assert_eq!(doubt(&bytes, &report).as_deref(), Some(why));
-    }
-
-    /// The rows taken are not printed.
-    #[test]
-    fn figures_are_in_currency_units() {
-        let report = Report {
-            interest_general: 4_580_112_500,
-            total: 4_580_112_500,
-            taken: 3_999,
-            ..Report::default()
-        };
-        let text = figures(&report);
-        assert!(
-            text.contains("interest general   4,580,112.500\n"),
-            "{text}"
-        );
-        assert_eq!(text.lines().count(), 7);
-        assert!(!text.contains("3,999"), "{text}");
     }
 }
