@@ -5,5 +5,6 @@ pub mod Joining
 pub mod Mirroring
 pub mod Ordering
 pub mod Currencies
+pub mod AddingUp
 pub mod WorkedBooks
 pub mod WorkedJoin

@@ -3,5 +3,6 @@ pub mod Zones
 pub mod Orders
 pub mod Demands
 pub mod Currencies
+pub mod AddingUp
 pub mod Worked
 pub mod Facts

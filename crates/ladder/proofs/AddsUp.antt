@@ -12,7 +12,7 @@ use borrow.Author.Tests.{leb-true}
 use Rattle.sums.proofs.Cases.{both}
 use Rattle.ladder.specs.Position.{Bands, _⊕_, gross, net, absoluteNet, total, vertical}
 use Rattle.ladder.specs.Table.{Percents, AcceptedPercents, AcceptedTable, standardTable, weightIn}
-use Rattle.ladder.specs.Interest.{Zones, Matches, zoneNets, together, matches, charge, allBands}
+use Rattle.ladder.specs.Interest.{Zones, Matches, zoneNets, together, matches, matchSum, charge, allBands}
 use Rattle.ladder.specs.Inner.Steps.{zonesGross}
 use Rattle.ladder.proofs.Matching.{Takes, takes-matched, takes-then, takes-both, takes-gross, takes-net}
 use Rattle.ladder.proofs.Totals.{takes-vertical, total-append, vertical-append}
@@ -21,10 +21,6 @@ use Rattle.ladder.proofs.Across.{OneSided, unopposed-net, crossing-adds
 -- the charge of a ladder from its bands
 abbrev pub chargeOf : Percents → Zones → Bands → ℕ
 chargeOf p z f = charge p (matches z f)
-
--- each match counted on one side
-abbrev pub matchSum : Matches → ℕ
-matchSum m = m .vertical + m .zone1 + m .zone2 + m .zone3 + m .zones12 + m .zones23 + m .zones13
 
 -- matches and residual make the gross; the residual is the net of all; the charge lies between the residual alone and all matches at 100%
 pub record AddsUp (p : Percents) (z : Zones) (f : Bands) : Type 0 where

@@ -1,18 +1,20 @@
 -- What machine numbers must hold: the charges of a list of rows, from the sum of the rows' amounts.
 -- Assumes nothing.
-use Prim.Native.Nat.{ℕ, suc, _+_, _*_, _≤_}
-use mathlib.Core.Path.{ap, fun-ext}
+use Prim.Native.Nat.{ℕ, suc, _+_, _*_, _≤_, _<_}
+use mathlib.Core.Path.{_≡_, ap, _∙_, fun-ext}
 use mathlib.Core.List.{List}
 use native.Mathlib.Nat.{mul-le-mul-left, mul-le-mul-right}
 use native.Mathlib.Omega.{arith}
 use Rattle.sums.specs.Sums.{span, sumOf, sumAt}
 use Rattle.sums.proofs.Sums.{sumOf-plus, sumOf≤, sumOf-rate}
-use Rattle.sums.proofs.Spans.{slots-within, sum-room}
+use Rattle.sums.specs.Every.{Every}
+use Rattle.sums.proofs.Spans.{slots-within, slots-all, sum-room}
 use Rattle.ladder.specs.Position.{Bands, gross, total}
 use Rattle.ladder.specs.Table.{Table, AcceptedTable}
 use Rattle.ladder.specs.Interest.{matches, zones}
 use Rattle.ladder.specs.Rows.{Reading, weighing, positionsBy, inGroup, ladderOf, groupsOf}
-use Rattle.ladder.proofs.Totals.{gross-sum}
+use Rattle.ladder.proofs.Matching.{same-position}
+use Rattle.ladder.proofs.Totals.{total-sides, gross-sum}
 use Rattle.ladder.proofs.AddsUp.{charge-within}
 use Rattle.ladder.proofs.Carrying.{commodity-within}
 use Rattle.ladder.proofs.Books.{weighted, interestCharge, commodityCharge, amountOf, grouped, ladderOf-weighted}
@@ -29,6 +31,12 @@ positionsBy-within index long short n rows =
       slots-within index long n rows,
       slots-within index short n rows,
     )
+
+-- and at exactly one where each index is in the span
+pub positionsBy-all : {Row : Type 0} (index long short : Row → ℕ) (n : ℕ) {rows : List Row} → Every (λ row. index row < n) rows
+    → total (positionsBy index long short rows) (span 0 n) ≡ record { long = sumOf long rows; short = sumOf short rows }
+positionsBy-all index long short n {rows} below =
+    total-sides (positionsBy index long short rows) (span 0 n) ∙ same-position (slots-all index long n below) (slots-all index short n below)
 
 module _ {Row : Type 0} (read : Reading Row) (n : ℕ) (rows : List Row) where
   pub groups-within : gross (total (groupsOf read rows) (span 0 n)) ≤ sumOf (amountOf read) rows

@@ -54,10 +54,10 @@ module _ (f : Bands) (bands : List ℕ) where
   unfolding even
   carry-gross = omega (arith, takes-gross (takes-carry nothing f bands))
 
-  carry-residual : gross ((carry nothing f bands) .position) ≡ absoluteNet (total f bands)
+  pub carry-residual : gross ((carry nothing f bands) .position) ≡ absoluteNet (total f bands)
   carry-residual = ap gross (carry-position nothing empty f bands none-net ∙ ap net (empty-plus (total f bands)))
 
-  carry-charge : carryCharge (carry nothing f bands)
+  pub carry-charge : carryCharge (carry nothing f bands)
       ≡ 15000 * gross (total f bands) + 135000 * absoluteNet (total f bands) + 6000 * (carry nothing f bands) .carried
   carry-charge = omega (arith, carry-gross, carry-residual)
 

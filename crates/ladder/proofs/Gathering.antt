@@ -9,12 +9,12 @@ use native.Mathlib.Omega.{arith}
 use Rattle.sums.specs.Sums.{span}
 use Rattle.ladder.specs.Position.{Position, Bands, _⊕_, empty, gross, net, total, vertical, bandNets}
 use Rattle.ladder.specs.Table.{Percents, AcceptedPercents}
-use Rattle.ladder.specs.Interest.{Matches, Zones, matches, charge, allBands, zones}
+use Rattle.ladder.specs.Interest.{Matches, Zones, matches, matchSum, charge, allBands, zones}
 use Rattle.ladder.specs.Commodity.{Carried, nothing, toBand, carry, carryFigures, commodityBands}
 use Rattle.ladder.specs.Nets.{absoluteNets, shorthand}
 use Rattle.ladder.specs.Inner.Steps.{PositionStep, Zone, NetStep, ZoneOf, InterestOf, CommodityOf, NetsOf, limit, commodityLimit, netStep, bandStep, carriedStep, zonesStep, zoneOf, combined}
 use Rattle.ladder.proofs.Totals.{total-last, vertical-last, fewer-within}
-use Rattle.ladder.proofs.AddsUp.{matchSum, three-grosses, three-verticals, gross-adds-up, charge-within}
+use Rattle.ladder.proofs.AddsUp.{three-grosses, three-verticals, gross-adds-up, charge-within}
 use Rattle.ladder.proofs.Netting.{absolutes-within, shorthand-within}
 use Rattle.ladder.proofs.Carrying.{carry-last, carry-gross, commodity-within}
 

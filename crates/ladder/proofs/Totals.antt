@@ -7,6 +7,7 @@ use native.Mathlib.Decide.{le-ind}
 use native.Mathlib.Nat.{le-refl, zero-add}
 use native.Mathlib.Omega.{arith}
 use Rattle.sums.specs.Sums.{sumOf, span}
+use Rattle.sums.proofs.Sums.{sumOf-plus}
 use Rattle.sums.proofs.Spans.{span-last}
 use Rattle.ladder.specs.Position.{Position, Bands, _⊕_, gross, net, absoluteNet, matched, total, vertical, bandNets}
 use Rattle.ladder.proofs.Matching.{Takes, mirrored, same-position, empty-plus, plus-assoc, plus-shuffle, takes-matched, takes-both, takes-net}
@@ -51,11 +52,14 @@ pub vertical-last : (f : Bands) (start many : ℕ) → vertical f (span start (s
 unfolding vertical
 vertical-last f start many = rw (span-last, vertical-append) (omega arith)
 
--- ---- gross
-pub gross-sum : (f : Bands) (list : List ℕ) → gross (total f list) ≡ sumOf (λ k. gross (f k)) list
+-- ---- each side, and gross
+pub total-sides : (f : Bands) (list : List ℕ) → total f list ≡ record { long = sumOf (λ k. f k .long) list; short = sumOf (λ k. f k .short) list }
 unfolding total sumOf
-gross-sum f [] = refl
-gross-sum f (k ∷ list) = omega (arith, gross-sum f list)
+total-sides f [] = refl
+total-sides f (k ∷ list) = ap (λ (s : Position). f k ⊕ s) (total-sides f list)
+
+pub gross-sum : (f : Bands) (list : List ℕ) → gross (total f list) ≡ sumOf (λ k. gross (f k)) list
+gross-sum f list = ap gross (total-sides f list) ∙ sym (sumOf-plus (λ k. f k .long) (λ k. f k .short) list)
 
 -- fewer bands have no more, and no band has more than all
 pub fewer-within : (f : Bands) (start n m : ℕ) → n ≤ m → gross (total f (span start n)) ≤ gross (total f (span start m))

@@ -99,6 +99,10 @@ matches z f =
       residual = across .residual;
     }
 
+-- the match sums together, each match counted on one side (P8)
+abbrev pub matchSum : Matches → ℕ
+matchSum m = m .vertical + m .zone1 + m .zone2 + m .zone3 + m .zones12 + m .zones23 + m .zones13
+
 -- the charge in mils: a per cent of a weighted position is one mil, and the residual bears 100% (document 01, Interest: bands and zones)
 abbrev pub charge : Percents → Matches → ℕ
 charge p m =

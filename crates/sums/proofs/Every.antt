@@ -29,6 +29,11 @@ module _ {A : Type 0} {P : A → Type 0} where
   every-bound f bound each none = omega arith
   every-bound f bound each (also {a} p rest) = omega (arith, each a p, every-bound f bound each rest)
 
+-- what holds of everything
+pub every-all : {A : Type 0} {P : A → Type 0} → ((a : A) → P a) → (l : List A) → Every P l
+every-all h [] = none
+every-all h (a ∷ l) = also (h a) (every-all h l)
+
 pub every-implied : {A : Type 0} {P Q : A → Type 0} → ((a : A) → P a → Q a) → {l : List A} → Every P l → Every Q l
 every-implied h none = none
 every-implied h (also {a} p e) = also (h a p) (every-implied h e)

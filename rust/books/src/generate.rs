@@ -57,6 +57,15 @@ impl Shape {
             without: [(); GROUPS].map(|()| left_out(random)),
         }
     }
+
+    /// A shape with one group, and no zone left out.
+    pub fn of_one_group(random: &mut Random, rows: usize) -> Shape {
+        Shape {
+            rows,
+            groups: vec![random.below(32) as u8],
+            without: [None; GROUPS],
+        }
+    }
 }
 
 /// The zone of an interest row.
@@ -153,6 +162,16 @@ pub fn interest_book(random: &mut Random, shape: &Shape) -> Book {
     book
 }
 
+/// An accepted book of a shape, of the two classes that have ladders.
+pub fn ladder_book(random: &mut Random, shape: &Shape) -> Book {
+    let mut book = Book::default();
+    for _ in 0..shape.rows {
+        let class = random.pick(&[0, 3]);
+        book.classes[class].push(row(random, class, shape));
+    }
+    book
+}
+
 #[cfg(test)]
 mod tests {
     use super::*;
@@ -199,6 +218,27 @@ mod tests {
             mixed |= shape.groups.iter().any(three) && !shape.groups.iter().all(three);
         }
         assert!(apart && mixed);
+    }
+
+    /// Catches ladders that leave a zone or a side out, and rows of other classes or groups.
+    #[test]
+    fn ladder_books_are_of_one_group_in_all_zones() {
+        for case in 0..20 {
+            let mut random = Random::of_case(8, case);
+            let shape = Shape::of_one_group(&mut random, 400);
+            let book = ladder_book(&mut random, &shape);
+            let [interest, equity, exchange, commodity] = &book.classes;
+            assert!(interest.len() > 100 && commodity.len() > 100);
+            assert!(equity.is_empty() && exchange.is_empty());
+            let mut rows = book.classes.iter().flatten();
+            assert!(rows.all(|row| shape.groups == [row.group]));
+            for wanted in 1..=3 {
+                let inside = |row: &&Row| zone(row.days, row.coupon) == wanted;
+                let inside = interest.iter().filter(inside);
+                assert!(inside.clone().any(|row| row.long > 0));
+                assert!(inside.clone().any(|row| row.short > 0));
+            }
+        }
     }
 
     #[test]

@@ -119,8 +119,12 @@ fn ladders_are_drawn() {
     line("residual 525.0 100% 525.000");
     line("charge 735.000");
     line("gross 1,575.0 = 2 x 525.0 matched + 525.0 residual");
+    line("residual 525.0 = 1,050.0 weighted long - 525.0 weighted short");
+    line("charge 735.000 >= 525.0 residual");
+    line("2 x charge 1,470.000 <= 1,575.0 gross + 525.0 residual");
     let text = prints(&["ladder", &packed("commodity", "ladder"), "--commodity", "5"]);
-    assert!(text.ends_with("79,200.000\n"));
+    assert!(text.contains(" 79,200.000\n\ngross "), "{text}");
+    assert!(text.ends_with(" + 7,200.000 (0.6% of carried)\n"), "{text}");
 }
 
 #[test]

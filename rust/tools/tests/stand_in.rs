@@ -1,6 +1,6 @@
-//! The command over a library that has calls taken out, miscounts rows or has wrong lists of
-//! the currencies, which it must notice. It is built a second time, over the proved archive
-//! with tests/stand_in/stand_in.c before its calls.
+//! The command over a library that has calls taken out, miscounts rows, has wrong lists of the
+//! currencies or ladders that do not add up, which it must notice. It is built a second time,
+//! over the proved archive with tests/stand_in/stand_in.c before its calls.
 
 mod common;
 
@@ -111,12 +111,18 @@ fn compare_fails_without_each_call() {
     assert!(fails("all", &words).contains(BY));
 }
 
-/// What the command says of a charge, its first line on it.
-fn told(fault: &str) -> String {
+/// What the command says of a call, its first line on it.
+fn told_of(call: &str, fault: &str) -> String {
     let error = fails(fault, &["compare", "--seed", "1", "--count", "300"]);
     let mut lines = error.lines();
-    let told = lines.find(|line| line.starts_with("charge"));
-    told.unwrap().to_string()
+    let told = lines.find(|line| line.starts_with(call));
+    told.unwrap_or_else(|| panic!("{fault}: {error}"))
+        .to_string()
+}
+
+/// The same of a charge.
+fn told(fault: &str) -> String {
+    told_of("charge", fault)
 }
 
 /// Catches a comparison that leaves out the rows taken, or looks at them in accepted books
@@ -211,4 +217,86 @@ fn ladder_fails_without_its_call() {
     assert!(run("none", &words).status.success());
     let error = fails("commodity_ladder", &words);
     assert!(error.contains("matches: the bands give 1400, the library 0"));
+}
+
+/// How the charge of the commodity sample is made up.
+const PARTS: &str =
+    "45,000.000 (1.5% of gross) + 27,000.000 (13.5% of residual) + 7,200.000 (0.6% of carried)";
+
+/// Wrong ladders of currency 7 of the keyed book, and the line of it that is not so.
+const WRONG_CURRENCY: [(&str, &str); 6] = [
+    (
+        "match_made_up",
+        "gross 1,575.0 = 2 x 787.5 matched + 262.5 residual",
+    ),
+    (
+        "one_side_in_gross",
+        "gross 1,050.0 = 1,050.0 weighted long + 525.0 weighted short",
+    ),
+    (
+        "match_dropped",
+        "gross 1,575.0 = 2 x 0.0 matched + 525.0 residual",
+    ),
+    (
+        "residual_with_sign",
+        "residual 1,844,674,407,370,954,636.6 = 1,050.0 weighted long - 525.0 weighted short",
+    ),
+    ("charge_too_low", "charge 524.999 >= 525.0 residual"),
+    (
+        "charge_too_high",
+        "2 x charge 2,100.002 <= 1,575.0 gross + 525.0 residual",
+    ),
+];
+
+/// Wrong ladders of commodity 5 of the commodity sample, and the beginning of that line.
+const WRONG_COMMODITY: [(&str, &str); 4] = [
+    (
+        "carried_once_more",
+        "carried 1,400 = 0 + 0 + 200 + 200 + 400 + 400",
+    ),
+    ("carried_once_more", "charge 80,400.000 = "),
+    (
+        "matches_dropped",
+        "gross 3,000 = 2 x 0 matched + 200 residual",
+    ),
+    ("one_side_charged", "charge 58,200.000 = "),
+];
+
+/// Catches a ladder that is printed without a look at what it adds up to, and one that fails
+/// without the line that is not so.
+#[test]
+fn ladder_fails_with_figures_that_do_not_add_up() {
+    let keyed = packed("keyed", "adding-up");
+    let words = ["ladder", &keyed, "--currency", "7"];
+    for (fault, line) in WRONG_CURRENCY {
+        let error = fails(fault, &words);
+        let line = format!("\ndoes not add up: {line}\n");
+        assert!(error.contains(&line), "{fault}: {error}");
+    }
+    let stock = packed("commodity", "adding-up");
+    let words = ["ladder", &stock, "--commodity", "5"];
+    for (fault, line) in WRONG_COMMODITY {
+        let error = fails(fault, &words);
+        let parts = if line.starts_with("charge") {
+            PARTS
+        } else {
+            ""
+        };
+        let line = format!("\ndoes not add up: {line}{parts}\n");
+        assert!(error.contains(&line), "{fault}: {error}");
+    }
+}
+
+/// Catches a comparison that leaves a figure of a ladder out.
+#[test]
+fn compare_fails_with_each_wrong_ladder() {
+    for (call, faults) in [
+        ("interest ladder", &WRONG_CURRENCY[..]),
+        ("commodity ladder", &WRONG_COMMODITY[..]),
+    ] {
+        for (fault, _) in faults {
+            let told = told_of(call, fault);
+            assert!(told.starts_with(&format!("{call}{BY}entry ")), "{told}");
+        }
+    }
 }

@@ -1,7 +1,7 @@
 //! One random case: two books, a group and the length of an output.
 
 use books::damage::damage;
-use books::generate::{book, interest_book, Shape};
+use books::generate::{book, interest_book, ladder_book, Shape};
 use books::{csv, Book, Random, Row};
 use std::fmt;
 
@@ -20,7 +20,7 @@ pub struct Case {
 
 /// How many rows two books have: mostly few, rarely as many as may be joined.
 fn sizes(random: &mut Random) -> [usize; 2] {
-    if random.once_in(42) {
+    if random.once_in(36) {
         let full = [
             [4000, 0],
             [4000, 1],
@@ -102,13 +102,24 @@ fn books_of_currencies(random: &mut Random) -> [Vec<u8>; 2] {
     books.map(|book| book.encode().expect("few rows"))
 }
 
+/// Two accepted books of interest and commodity rows, all in one group, so that many ladders
+/// use all three zones or carry amounts.
+fn books_of_one_group(random: &mut Random) -> [Vec<u8>; 2] {
+    let mut shape = Shape::of_one_group(random, 0);
+    [0; 2].map(|_| {
+        shape.rows = random.below(25) as usize;
+        ladder_book(random, &shape).encode().expect("few rows")
+    })
+}
+
 impl Case {
     /// The case with this number of a seed.
     pub fn new(seed: u64, number: u64) -> Case {
         let mut random = Random::of_case(seed, number);
-        let [a, b] = match random.once_in(8) {
-            true => books_of_currencies(&mut random),
-            false => any_books(&mut random),
+        let [a, b] = match random.below(8) {
+            0 => books_of_currencies(&mut random),
+            1 => books_of_one_group(&mut random),
+            _ => any_books(&mut random),
         };
         Case {
             group: group(&mut random, &a),

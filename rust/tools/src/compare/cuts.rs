@@ -69,6 +69,11 @@ fn weight(row: &Row) -> u64 {
     small.iter().sum::<u64>() + u64::from(row.group) + kind + amounts
 }
 
+/// The file with all its rows in group 0, if it has rows.
+pub fn in_group_0(bytes: &[u8]) -> Option<Vec<u8>> {
+    one_group(&Book::decode(bytes)?).encode()
+}
+
 /// The book with all its rows in group 0.
 fn one_group(book: &Book) -> Book {
     let mut book = book.clone();

@@ -1,8 +1,9 @@
-//! Demand 3 and the charges of each currency on one case, by the library's own figures:
-//! lists that add up, order, mirror and joining.
+//! Demand 3, the charges of each currency and the ladders on one case, by the library's own
+//! figures: lists and ladders that add up, order, mirror and joining.
 
 use super::case::Case;
 use super::check::unequal;
+use super::ladders;
 use super::premises::{at_most_two, zones, Zones};
 use crate::calls::Calls;
 use books::{Book, Random, Row};
@@ -151,6 +152,7 @@ fn joining(calls: &dyn Calls, case: &Case) -> Option<String> {
 /// What of them a case breaks, in words.
 pub fn broken(calls: &dyn Calls, case: &Case) -> Option<String> {
     adding_up(calls, case)
+        .or_else(|| ladders::broken(calls, case))
         .or_else(|| order_and_mirror(calls, case))
         .or_else(|| joining(calls, case))
 }

@@ -5,6 +5,7 @@ mod check;
 mod cuts;
 #[cfg(test)]
 mod faulty;
+mod ladders;
 mod laws;
 mod premises;
 mod run;
@@ -14,6 +15,8 @@ mod stand_ins;
 mod tally;
 #[cfg(test)]
 mod tests;
+#[cfg(test)]
+mod wrong_ladders;
 
 use crate::cli::{print, Args, Command, Outcome};
 use run::Run;
@@ -31,12 +34,14 @@ book has the same report; a joined book takes as many rows as its two parts and,
 most two zones used in each currency, costs at most these, in each charge and the total.
 So are the charges of each currency: each list adds up to the charge that it splits, and
 a currency that itself uses at most two zones in a joined book costs at most what it cost
-in the two, whatever the other currencies use.
+in the two, whatever the other currencies use. And every ladder that is accepted adds up,
+in the lines that `ladder` shows, which hold the library's figures to the rows.
 
 On a difference it prints the smallest books that it can find, in hex and as CSV, and
 stops with exit status 1. It also fails when the pairs have shown too little: every
-refusal, accepted books with rows, books refused after their first row, joins made, joins
-under the zone premise, currencies of both books under their own premise, these beside a
+refusal, accepted books with rows, books refused after their first row, interest ladders
+with all three zones used, commodity ladders with amounts carried, joins made, joins under
+the zone premise, currencies of both books under their own premise, these beside a
 currency with three zones, and currencies that cost more joined must come up in
 proportion to N.
 

@@ -1,7 +1,7 @@
 //! The smallest case that still fails, as far as simple cuts lead.
 
 use super::case::Case;
-use super::cuts::cuts;
+use super::cuts::{cuts, in_group_0};
 
 /// How many cuts are tried at most: full books that cannot be cut have very many.
 const MOST_TRIES: usize = 10_000;
@@ -25,7 +25,12 @@ fn smaller(case: &Case) -> impl Iterator<Item = Case> + '_ {
     };
     let of_b = cuts(&case.b).map(move |b| with(case.a.clone(), b));
     let of_a = cuts(&case.a).map(move |a| with(a, case.b.clone()));
+    let regrouped = in_group_0(&case.a).map(|a| Case {
+        a,
+        ..plain(0, case.room)
+    });
     let numbers = [plain(0, case.room), plain(case.group, 0)].into_iter();
+    let numbers = numbers.chain(regrouped);
     let numbers = numbers.filter(move |plain| plain != case);
     numbers.chain(of_b).chain(of_a)
 }
@@ -88,6 +93,21 @@ mod tests {
         assert_eq!(book.classes[3], [plain; 2]);
         let left = (smallest.b.len(), smallest.group, smallest.room);
         assert_eq!(left, (0, 0, 0));
+    }
+
+    /// Catches a group that is kept because neither the call's nor the rows' can be changed
+    /// alone.
+    #[test]
+    fn rows_and_call_come_to_group_0_together() {
+        let own = |case: &Case| {
+            let book = Book::decode(&case.a).unwrap_or_default();
+            let group = |row: &Row| usize::from(row.group) == case.group;
+            book.classes[3].iter().any(group)
+        };
+        let smallest = shrink(&case(2, 3), &mut |case| own(case));
+        let book = Book::decode(&smallest.a).unwrap();
+        assert_eq!((smallest.group, book.rows()), (0, 1));
+        assert_eq!(book.classes[3][0].group, 0);
     }
 
     #[test]

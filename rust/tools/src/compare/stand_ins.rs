@@ -5,6 +5,7 @@ use super::premises::{at_most_two, zones};
 use super::run::{Run, DEFAULT_COUNT};
 use crate::calls::{Calls, Proved, Second};
 use crate::cli::{Args, Failure};
+use books::Book;
 
 /// The five calls.
 #[derive(Clone, Copy, Debug, PartialEq)]
@@ -145,32 +146,58 @@ fn a_run_that_has_seen_too_little_fails() {
     assert!(empty.outcome().is_ok());
 }
 
-/// A case of a seed, but none in which a currency of both books together uses three zones.
+/// A case of a seed, but none in which a currency of the first book, or of both together, uses
+/// three zones.
 fn without_three(seed: u64, number: u64) -> Case {
-    let cases = (0..).map(|turn| Case::new(seed + turn, number));
-    let two = |case: &Case| {
+    let two = |book: &[u8]| zones(book).iter().all(at_most_two);
+    let mut cases = (0..).map(|turn| Case::new(seed + turn, number));
+    let wanted = cases.find(|case| {
         let mut joined = vec![0; (case.a.len() + case.b.len()).saturating_sub(8)];
         second::join(&case.a, &case.b, &mut joined);
-        zones(&joined).iter().all(at_most_two)
-    };
-    cases.into_iter().find(two).expect("most cases use two")
+        two(&case.a) && two(&joined)
+    });
+    wanted.expect("most cases use two")
 }
 
-/// Catches a run that cannot tell a currency's own premise from that of all, or from none:
-/// no currency has stood beside one with three zones, and none was dearer when joined.
-#[test]
-fn a_run_without_three_zones_fails() {
+/// A case of a seed, with the commodity rows of the first book in the last band.
+fn without_carried(seed: u64, number: u64) -> Case {
+    let mut case = Case::new(seed, number);
+    if let Some(mut book) = Book::decode(&case.a) {
+        let rows = book.classes[3].iter_mut();
+        rows.for_each(|row| row.days = row.days.max(1081));
+        case.a = book.encode().expect("as many rows");
+    }
+    case
+}
+
+/// What a run of 4,000 cases of a kind lacks.
+fn lacking(cases: fn(u64, u64) -> Case) -> Vec<String> {
     let none = StandIn {
         without: &[],
         zeros: true,
     };
-    let mut two = run(&none, &Second, 4_000);
-    two.cases = without_three;
-    let message = failure(&two);
-    let lacking: Vec<&str> = message.lines().skip(1).collect();
+    let mut run = run(&none, &Second, 4_000);
+    run.cases = cases;
+    let message = failure(&run);
+    message.lines().skip(1).map(String::from).collect()
+}
+
+/// Catches a run that cannot tell a currency's own premise from that of all, or from none:
+/// no currency has stood beside one with three zones, and none was dearer when joined. And
+/// one whose ladders add up with two zones alone.
+#[test]
+fn a_run_without_three_zones_fails() {
     let expected = [
+        "interest ladders with three zones: 0 where at least 60 are wanted",
         "currencies joined beside one with three zones: 0 where at least 110 are wanted",
         "currencies dearer when joined: 0 where at least 50 are wanted",
     ];
-    assert_eq!(lacking, expected);
+    assert_eq!(lacking(without_three), expected);
+}
+
+/// Catches a run whose commodity ladders add up because nothing is carried.
+#[test]
+fn a_run_without_amounts_carried_fails() {
+    let expected = ["commodity ladders with amounts carried: 0 where at least 160 are wanted"];
+    assert_eq!(lacking(without_carried), expected);
 }

@@ -15,6 +15,10 @@ pub struct Tally {
     /// First books by the number of their refusal, 1 to 9.
     pub refused: [u64; 10],
     pub ladder_refused: u64,
+    /// Interest ladders of currencies that use all three zones.
+    pub three_zones: u64,
+    /// Commodity ladders with amounts carried.
+    pub carried: u64,
     /// Joins by the number of their refusal; 0 counts those that were made.
     pub joins: [u64; 13],
     pub of_second: u64,
@@ -28,6 +32,8 @@ const LEAST: Tally = Tally {
     after_first: 1_100,
     refused: [0, 75, 150, 740, 340, 270, 240, 300, 360, 150],
     ladder_refused: 770,
+    three_zones: 300,
+    carried: 800,
     joins: [
         1_600, 115, 240, 1_150, 520, 400, 380, 500, 560, 260, 0, 20, 800,
     ],
@@ -57,6 +63,10 @@ impl Tally {
         self.with_rows += u64::from(refusal.accepted() && case.a.len() > 8);
         self.after_first += u64::from(refusal.row > 0);
         self.ladder_refused += u64::from(case.group > 31);
+        let zones = second::zones_used(&case.a, case.group);
+        self.three_zones += u64::from(zones == [true; 3]);
+        let carried = second::commodity_ladder(&case.a, case.group).carried;
+        self.carried += u64::from(carried > 0);
         let mut out = vec![0; case.room];
         let joined = second::join(&case.a, &case.b, &mut out);
         self.joins[joined.refusal.number as usize] += 1;
@@ -82,6 +92,11 @@ impl Tally {
                 self.after_first,
             ),
             ("ladders refused 10".to_string(), self.ladder_refused),
+            ("interest ladders with three zones".into(), self.three_zones),
+            (
+                "commodity ladders with amounts carried".into(),
+                self.carried,
+            ),
             ("joins made".to_string(), self.joins[0]),
             ("joins refused for the second book".into(), self.of_second),
         ];
@@ -121,6 +136,11 @@ impl fmt::Display for Tally {
             self.with_rows, self.after_first
         )?;
         writeln!(out, "ladders refused 10: {}", self.ladder_refused)?;
+        writeln!(
+            out,
+            "interest ladders with three zones {}, commodity ladders with amounts carried {}",
+            self.three_zones, self.carried
+        )?;
         writeln!(out, "joins made {}, {}", self.joins[0], self.premises)?;
         writeln!(
             out,
@@ -157,6 +177,14 @@ mod tests {
             "books refused after their first row",
         );
         alone(|tally| &mut tally.ladder_refused, "ladders refused 10");
+        alone(
+            |tally| &mut tally.three_zones,
+            "interest ladders with three zones",
+        );
+        alone(
+            |tally| &mut tally.carried,
+            "commodity ladders with amounts carried",
+        );
         alone(|tally| &mut tally.joins[0], "joins made");
         alone(
             |tally| &mut tally.of_second,
@@ -192,12 +220,12 @@ mod tests {
     #[test]
     fn minimums_follow_the_count() {
         let nothing = Tally::default();
-        assert_eq!(nothing.lacking(20_000).len(), 10 + 9 + 11);
+        assert_eq!(nothing.lacking(20_000).len(), 12 + 9 + 11);
         assert!(LEAST.lacking(20_100).len() > 10);
         let half = nothing.lacking(10_000);
         assert!(half.contains(&"joins refused 11: 0 where at least 10 are wanted".to_string()));
         // Few cases may miss the rarest, and very few may miss anything.
-        assert_eq!(nothing.lacking(9_999).len(), 10 + 9 + 10);
+        assert_eq!(nothing.lacking(9_999).len(), 12 + 9 + 10);
         assert_eq!(nothing.lacking(51), [""; 0]);
     }
 }

@@ -23,6 +23,14 @@ pub const COMMODITY: [u16; 6] = [30, 90, 180, 360, 720, 1080];
 /// The bands of zones 1, 2 and 3.
 pub const ZONES: [std::ops::Range<usize>; 3] = [0..4, 4..7, 7..15];
 
+/// The last days of the interest bands for a coupon.
+pub fn column(coupon: u16) -> &'static [u16] {
+    match coupon {
+        300.. => &ORDINARY,
+        _ => &LOW_COUPON,
+    }
+}
+
 /// The first band whose last day is not below the days.
 pub fn band(last_days: &[u16], days: u16) -> usize {
     last_days.iter().take_while(|last| **last < days).count()
@@ -48,9 +56,12 @@ mod tests {
     #[test]
     fn the_tables_are_the_second_calculation_s() {
         for days in 0..=36_000 {
-            let known = |coupon| second::interest_band(i128::from(days), coupon);
-            assert_eq!(band(&ORDINARY, days), known(300));
-            assert_eq!(band(&LOW_COUPON, days), known(299));
+            for coupon in [0, 299, 300, 10_000] {
+                assert_eq!(
+                    band(column(coupon), days),
+                    second::interest_band(days.into(), coupon.into())
+                );
+            }
             assert_eq!(
                 band(&COMMODITY, days),
                 second::commodity_band(i128::from(days))

@@ -1,7 +1,7 @@
 //! The ladder of one commodity as a table.
 
 use super::bands::{band, span, COMMODITY};
-use super::same;
+use super::{adding_up, hold, same};
 use crate::text::{mils, table, whole};
 use books::Row;
 use market_risk::CommodityLadder;
@@ -85,7 +85,8 @@ fn band_table(bands: &[Band; 7]) -> String {
 /// The ladder of one commodity, or where it disagrees with the library.
 pub fn show(rows: &[Row], group: u64, ladder: &CommodityLadder) -> Result<String, String> {
     let bands = bands(rows, group);
-    cross_check(&bands, ladder)?;
+    let lines = adding_up::commodity(rows, group, ladder);
+    hold(cross_check(&bands, ladder), &lines)?;
     let line = |name: &str, sum: u64, rate: &str, mils_each: i128| {
         let charge = mils(i128::from(sum) * mils_each);
         vec![name.into(), whole(sum), rate.into(), charge]
@@ -104,9 +105,10 @@ pub fn show(rows: &[Row], group: u64, ladder: &CommodityLadder) -> Result<String
         vec!["charge".into(), blank(), blank(), mils(ladder.charge)],
     ];
     Ok(format!(
-        "commodity {group}: amounts in thousands, charges in currency units\n\n{}\n{}",
+        "commodity {group}: amounts in thousands, charges in currency units\n\n{}\n{}\n{}",
         band_table(&bands),
-        table(&steps)
+        table(&steps),
+        adding_up::show(&lines)
     ))
 }
 
@@ -155,6 +157,7 @@ mod tests {
                 *figure(&mut wrong) += by;
                 let told = show(&rows(), 5, &wrong).unwrap_err();
                 assert!(told.starts_with(&format!("{name}: ")), "{name}: {told}");
+                assert!(told.contains("\ndoes not add up: "), "{name}: {told}");
             }
         }
         assert!(show(&rows(), 5, &CommodityLadder::default()).is_err());

@@ -2,6 +2,7 @@
 
 use super::bands::{span, LOW_COUPON, ORDINARY, WEIGHTS, ZONES};
 use super::steps::{amounts, cross_check, steps, Sides, Step};
+use super::{adding_up, hold};
 use crate::text::{mils, places, table, weighted, whole};
 use books::Row;
 use market_risk::InterestLadder;
@@ -91,16 +92,14 @@ pub fn show(rows: &[Row], group: u64, ladder: &InterestLadder) -> Result<String,
         *sides = (sides.0 * weight, sides.1 * weight);
     }
     let (steps, rest) = steps(&bands);
-    cross_check(&bands, &steps, rest, ladder)?;
-    let matched: i128 = steps.iter().map(|step| step.matched).sum();
+    let lines = adding_up::interest(rows, group, ladder);
+    hold(cross_check(&bands, &steps, rest, ladder), &lines)?;
     Ok(format!(
         "currency {group}: amounts in thousands, weighted positions and charges in currency units\n\n\
-         {}\n{}\ngross {} = 2 x {} matched + {} residual\n",
+         {}\n{}\n{}",
         band_table(&amounts, &bands),
         step_table(&steps, ladder),
-        weighted(ladder.gross),
-        weighted(matched),
-        weighted(ladder.residual)
+        adding_up::show(&lines)
     ))
 }
 
@@ -159,6 +158,10 @@ mod tests {
                     *figure(&mut wrong) += by;
                     let told = show(&rows, 7, &wrong).unwrap_err();
                     assert!(told.starts_with(&format!("{name}: ")), "{name}: {told}");
+                    // A mil more lies within the bounds of the charge.
+                    let within = (name, by) == ("charge", 1);
+                    let adds_up = !told.contains("\ndoes not add up: ");
+                    assert_eq!(adds_up, within, "{name}: {told}");
                 }
             }
             assert!(show(&rows, 7, &InterestLadder::default()).is_err());

@@ -1,5 +1,6 @@
 //! `ladder`: one currency's or one commodity's ladder as a supervisor draws it.
 
+pub mod adding_up;
 mod bands;
 mod commodity;
 mod interest;
@@ -8,6 +9,7 @@ mod steps;
 use crate::cli::{no, usage, Args, Command, Failure, Outcome};
 use crate::files::{input, print, read_book};
 use crate::report::explain;
+use adding_up::{broken, Line};
 use books::Book;
 use market_risk::Refusal;
 
@@ -19,11 +21,20 @@ market-risk ladder BOOK --commodity N
 
 Prints the ladder of currency or commodity N, 0 to 31, so that it can be checked by
 hand: for each band its weight, longs, shorts, match and net; then each step with its
-match, per cent and disallowance; the residual and the charge.
+match, per cent and disallowance; the residual and the charge. Last come the lines by
+which it adds up:
+
+  currency    gross is twice the matches plus the residual, and weighted longs plus
+              weighted shorts; the residual is the difference of these; the charge is at
+              least the residual, and twice the charge at most gross plus residual
+  commodity   gross is twice the matches plus the residual, and longs plus shorts; the
+              residual is the difference of these; what is carried, step by step; the
+              charge is 1.5% of gross, 13.5% of the residual and 0.6% of what is carried
 
 Amounts are in thousands, weighted positions and charges in currency units. Matches,
-residual and charge are the proved library's. The rows of the bands are added up here,
-and the command fails if they do not lead to the library's figures.
+residual, what is carried and charge are the proved library's. The rows are added up here,
+by bands for the table and one by one for the last lines, and the command fails if they do
+not lead to the library's figures or if a line does not hold.
 ",
     options: &["--currency", "--commodity"],
     flags: &[],
@@ -37,6 +48,15 @@ fn same(name: &str, here: i128, library: u64) -> Result<(), String> {
         false => Err(format!(
             "{name}: the bands give {here}, the library {library}"
         )),
+    }
+}
+
+/// Fails with what the cross-check tells and with every line that does not hold.
+fn hold(cross_check: Result<(), String>, lines: &[Line]) -> Result<(), String> {
+    let told: Vec<String> = cross_check.err().into_iter().chain(broken(lines)).collect();
+    match &told[..] {
+        [] => Ok(()),
+        told => Err(told.join("\n")),
     }
 }
 
@@ -67,4 +87,30 @@ fn run(args: &Args) -> Outcome {
         ..failure
     };
     print(&ladder(&bytes, currency, commodity).map_err(named)?)
+}
+
+#[cfg(test)]
+mod tests {
+    use super::*;
+    use market_risk::InterestLadder;
+
+    /// Catches lines that are not looked at, or are where the cross-check fails alone.
+    #[test]
+    fn the_cross_check_and_every_line_must_hold() {
+        let lines = |charge: u64| {
+            let ladder = InterestLadder {
+                charge,
+                ..InterestLadder::default()
+            };
+            adding_up::interest(&[], 0, &ladder)
+        };
+        let (right, wrong) = (lines(0), lines(1));
+        let line = "does not add up: 2 x charge 0.002 <= 0.0 gross + 0.0 residual";
+        let differs = || Err("gross: differs".to_string());
+        assert_eq!(hold(Ok(()), &right), Ok(()));
+        assert_eq!(hold(Ok(()), &wrong), Err(line.into()));
+        assert_eq!(hold(differs(), &right), differs());
+        let both = format!("gross: differs\n{line}");
+        assert_eq!(hold(differs(), &wrong), Err(both));
+    }
 }

@@ -1,6 +1,6 @@
 //! The steps of the interest ladder, from the rows of one currency.
 
-use super::bands::{band, LOW_COUPON, ORDINARY, ZONES};
+use super::bands::{band, column, ZONES};
 use super::same;
 use books::Row;
 use market_risk::InterestLadder;
@@ -20,11 +20,7 @@ pub struct Step {
 pub fn amounts(rows: &[Row], group: u64) -> [Sides; 15] {
     let mut bands = [(0, 0); 15];
     for row in rows.iter().filter(|row| u64::from(row.group) == group) {
-        let column = match row.coupon {
-            300.. => &ORDINARY[..],
-            _ => &LOW_COUPON[..],
-        };
-        let sides = &mut bands[band(column, row.days)];
+        let sides = &mut bands[band(column(row.coupon), row.days)];
         sides.0 += i128::from(row.long);
         sides.1 += i128::from(row.short);
     }

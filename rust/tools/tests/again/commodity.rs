@@ -54,6 +54,55 @@ fn charge_lines(ladder: &CommodityLadder) -> Vec<String> {
     ]
 }
 
+/// The last lines (document 02, P8). At each step all is carried that the rows of the bands
+/// so far leave open. 1.5% on each side of a match and 15% of the residual are 1.5% of gross
+/// and 13.5% of the residual.
+fn adding_up_lines(book: &Book, group: usize, ladder: &CommodityLadder) -> Vec<String> {
+    let own = |band: usize| {
+        let own = book.classes[3].iter();
+        let own = own.filter(move |row| usize::from(row.group) == group);
+        sides(own.filter(move |row| commodity_band(row.days.into()) <= band))
+    };
+    let net = |(long, short): (i128, i128)| long.max(short) - long.min(short);
+    let (steps, (long, short)) = ([0, 1, 2, 3, 4, 5].map(|band| net(own(band))), own(6));
+    let [matches, carried, residual, charge] = [
+        ladder.matches,
+        ladder.carried,
+        ladder.residual,
+        ladder.charge,
+    ]
+    .map(i128::from);
+    let gross = long + short;
+    let parts = [15_000 * gross, 135_000 * residual, 6_000 * carried];
+    assert_eq!(gross, 2 * matches + residual);
+    assert_eq!(residual, net((long, short)));
+    assert_eq!(carried, steps.iter().sum::<i128>());
+    assert_eq!(charge, parts.iter().sum::<i128>());
+    let longs = format!("{} long", amount(long));
+    let shorts = format!("{} short", amount(short));
+    let difference = match short > long {
+        true => format!("{shorts} - {longs}"),
+        false => format!("{longs} - {shorts}"),
+    };
+    let [of_gross, of_residual, of_carried] = parts.map(mils);
+    let [gross, matches, residual] = [gross, matches, residual].map(amount);
+    vec![
+        format!("gross {gross} = 2 x {matches} matched + {residual} residual"),
+        format!("gross {gross} = {longs} + {shorts}"),
+        format!("residual {residual} = {difference}"),
+        format!(
+            "carried {} = {}",
+            amount(carried),
+            steps.map(amount).join(" + ")
+        ),
+        format!(
+            "charge {} = {of_gross} (1.5% of gross) + {of_residual} (13.5% of residual) + \
+             {of_carried} (0.6% of carried)",
+            mils(charge)
+        ),
+    ]
+}
+
 /// All lines of a commodity.
 pub fn commodity(book: &Book, group: usize) -> Vec<String> {
     let ladder = second::commodity_ladder(&book.encode().unwrap(), group);
@@ -65,5 +114,7 @@ pub fn commodity(book: &Book, group: usize) -> Vec<String> {
     lines.extend(band_lines(book, group, &ladder));
     lines.push("".into());
     lines.extend(charge_lines(&ladder));
+    lines.push("".into());
+    lines.extend(adding_up_lines(book, group, &ladder));
     lines
 }

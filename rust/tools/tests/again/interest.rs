@@ -107,12 +107,57 @@ fn step_lines(bands: &[Sides], ladder: &InterestLadder) -> Vec<String> {
     lines
 }
 
-/// The last line: a position is matched on both its sides, or is left.
-fn gross_line(ladder: &InterestLadder) -> String {
-    let [gross, residual] = [ladder.gross, ladder.residual].map(i128::from);
-    let matched = (gross - residual) / 2;
+/// The weighted longs and the weighted shorts of a currency, row by row.
+fn weighted_sides(rows: &[Row], group: usize) -> Sides {
+    let own = rows.iter().filter(|row| usize::from(row.group) == group);
+    own.fold((0, 0), |(long, short), row| {
+        let weight = interest_weight(interest_band(row.days.into(), row.coupon.into()));
+        (
+            long + weight * i128::from(row.long),
+            short + weight * i128::from(row.short),
+        )
+    })
+}
+
+/// The last lines (document 02, P8). A position is matched on both its sides, or is left; what
+/// is left is the net of all; it bears 100%, and nothing bears more.
+fn adding_up_lines(rows: &[Row], group: usize, ladder: &InterestLadder) -> Vec<String> {
+    let matched = [
+        ladder.vertical,
+        ladder.zone_1,
+        ladder.zone_2,
+        ladder.zone_3,
+        ladder.zones_1_2,
+        ladder.zones_2_3,
+        ladder.zones_1_3,
+    ];
+    let matched = matched.map(i128::from).iter().sum::<i128>();
+    let (long, short) = weighted_sides(rows, group);
+    let (gross, residual) = (long + short, long.max(short) - long.min(short));
+    let charge = i128::from(ladder.charge);
+    assert_eq!(
+        [gross, residual],
+        [ladder.gross, ladder.residual].map(i128::from)
+    );
+    assert_eq!(gross, 2 * matched + residual);
+    assert!((100 * residual..=50 * (gross + residual)).contains(&charge));
+    let longs = format!("{} weighted long", weighted(long));
+    let shorts = format!("{} weighted short", weighted(short));
+    let [larger, smaller] = match short > long {
+        true => [&shorts, &longs],
+        false => [&longs, &shorts],
+    };
     let [gross, matched, residual] = [gross, matched, residual].map(weighted);
-    format!("gross {gross} = 2 x {matched} matched + {residual} residual")
+    vec![
+        format!("gross {gross} = 2 x {matched} matched + {residual} residual"),
+        format!("gross {gross} = {longs} + {shorts}"),
+        format!("residual {residual} = {larger} - {smaller}"),
+        format!("charge {} >= {residual} residual", mils(charge)),
+        format!(
+            "2 x charge {} <= {gross} gross + {residual} residual",
+            mils(2 * charge)
+        ),
+    ]
 }
 
 /// All lines of a currency.
@@ -131,6 +176,7 @@ pub fn interest(book: &Book, group: usize) -> Vec<String> {
     lines.extend(drawn.map(|(band, sides)| band_line(band, *sides)));
     lines.push("".into());
     lines.extend(step_lines(&bands, &ladder));
-    lines.extend(["".into(), gross_line(&ladder)]);
+    lines.push("".into());
+    lines.extend(adding_up_lines(&book.classes[0], group, &ladder));
     lines
 }

@@ -1,7 +1,7 @@
 /* The proved library with some calls taken out: STAND_IN names one of them, or is "all".
  * A call that is taken out writes zeros and no output. STAND_IN may also name a wrong count
- * of the rows taken by a charge, or a fault of its lists of the currencies. The archive's own
- * calls have other names here, proved_check and so on. */
+ * of the rows taken by a charge, a fault of its lists of the currencies, or a ladder that does
+ * not add up. The archive's own calls have other names here, proved_check and so on. */
 #include "market_risk.h"
 
 #include <stdlib.h>
@@ -59,6 +59,42 @@ static void mislist(uint64_t out[75]) {
     if (named("entry_kept") && out[0] != 0) generals[31] = 9;
 }
 
+/* Makes a currency's ladder wrong: half of the residual told as matched between zones 1 and 3,
+ * which leaves the charge as it is; gross of the larger side alone; the match of zones 1 and 2
+ * left out; a residual below zero; a charge just out of its bounds. */
+static void misladder(uint64_t out[13]) {
+    uint64_t gross = out[3], residual = out[11];
+    if (out[0] != 0) return;
+    if (named("match_made_up")) {
+        out[10] += residual / 2;
+        out[11] -= residual / 2;
+    }
+    if (named("one_side_in_gross")) out[3] = (gross + residual) / 2;
+    if (named("match_dropped")) {
+        out[12] -= 40 * out[8];
+        out[8] = 0;
+    }
+    if (named("residual_with_sign")) out[11] = 0 - residual;
+    if (named("charge_too_low")) out[12] = 100 * residual - 1;
+    if (named("charge_too_high")) out[12] = 50 * (gross + residual) + 1;
+}
+
+/* Makes a commodity's ladder wrong: what is left carried once more and charged for it; the
+ * matches left out with their charge; a match charged on one side. */
+static void miscarry(uint64_t out[7]) {
+    uint64_t matches = out[3], residual = out[5];
+    if (out[0] != 0) return;
+    if (named("carried_once_more")) {
+        out[4] += residual;
+        out[6] += 6000 * residual;
+    }
+    if (named("matches_dropped")) {
+        out[3] = 0;
+        out[6] -= 30000 * matches;
+    }
+    if (named("one_side_charged")) out[6] -= 15000 * matches;
+}
+
 void market_risk_check(const uint8_t *book, size_t len, uint64_t out[3]) {
     if (!taken_out("check", out, 3)) proved_check(book, len, out);
 }
@@ -72,11 +108,13 @@ void market_risk_charge(const uint8_t *book, size_t len, uint64_t out[75]) {
 void market_risk_interest_ladder(const uint8_t *book, size_t len, size_t group,
                                  uint64_t out[13]) {
     if (!taken_out("interest_ladder", out, 13)) proved_interest_ladder(book, len, group, out);
+    misladder(out);
 }
 
 void market_risk_commodity_ladder(const uint8_t *book, size_t len, size_t group,
                                   uint64_t out[7]) {
     if (!taken_out("commodity_ladder", out, 7)) proved_commodity_ladder(book, len, group, out);
+    miscarry(out);
 }
 
 void market_risk_join(const uint8_t *a, size_t a_len, const uint8_t *b, size_t b_len,

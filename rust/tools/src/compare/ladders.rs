@@ -1,0 +1,67 @@
+//! The adding-up of both ladders (document 02, P8) on one case: the library's own figures,
+//! held to the rows of the first book.
+
+use super::case::Case;
+use crate::calls::Calls;
+use crate::ladder::adding_up::{self, Line};
+use books::Book;
+use market_risk::{CommodityLadder, InterestLadder};
+
+/// The figures of a currency, if the call is accepted.
+fn interest_ladder(calls: &dyn Calls, case: &Case) -> Option<InterestLadder> {
+    let mut out = [0; 13];
+    calls.interest_ladder(&case.a, case.group, &mut out);
+    let [0, _, _, gross, vertical, zone_1, zone_2, zone_3, between @ .., residual, charge] = out
+    else {
+        return None;
+    };
+    let [zones_1_2, zones_2_3, zones_1_3] = between;
+    Some(InterestLadder {
+        gross,
+        vertical,
+        zones: [zone_1, zone_2, zone_3],
+        zones_1_2,
+        zones_2_3,
+        zones_1_3,
+        residual,
+        charge,
+    })
+}
+
+/// The figures of a commodity, if the call is accepted.
+fn commodity_ladder(calls: &dyn Calls, case: &Case) -> Option<CommodityLadder> {
+    let mut out = [0; 7];
+    calls.commodity_ladder(&case.a, case.group, &mut out);
+    let [0, _, _, matches, carried, residual, charge] = out else {
+        return None;
+    };
+    Some(CommodityLadder {
+        matches,
+        carried,
+        residual,
+        charge,
+    })
+}
+
+/// The first line of a ladder that does not hold.
+fn first(whose: &str, group: u64, lines: &[Line]) -> Option<String> {
+    let told = adding_up::broken(lines).next()?;
+    Some(format!("the ladder of {whose} {group} {told}"))
+}
+
+/// What of the adding-up a case breaks, in words.
+pub fn broken(calls: &dyn Calls, case: &Case) -> Option<String> {
+    let [interest, _, _, commodity] = Book::decode(&case.a)?.classes;
+    let group = case.group as u64;
+    let of_currency = || {
+        let ladder = interest_ladder(calls, case)?;
+        let lines = adding_up::interest(&interest, group, &ladder);
+        first("currency", group, &lines)
+    };
+    let of_commodity = || {
+        let ladder = commodity_ladder(calls, case)?;
+        let lines = adding_up::commodity(&commodity, group, &ladder);
+        first("commodity", group, &lines)
+    };
+    of_currency().or_else(of_commodity)
+}
