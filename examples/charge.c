@@ -44,6 +44,13 @@ static const uint8_t currencies[8 + 3 * 16] = {
     31, 3, 0x3c, 0, 0x20, 0x03, 0, 0, 0,  0, 0, 0, 4, 0, 0, 0,
 };
 
+/* Currency 7, a floating-rate note (kind 4), long 1: 90 days to its next fixing, and 2,880 (0x0b40) to final maturity in the
+ * place of the coupon. */
+static const uint8_t floating[8 + 16] = {
+    1, 0, 0, 0, 0, 0, 0, 0,
+    7, 4, 90, 0, 0x40, 0x0b, 0, 0, 1, 0, 0, 0, 0, 0, 0, 0,
+};
+
 /* Prints the specific and the general charge of each currency that has one. */
 static void print_currencies(const uint64_t specifics[32], const uint64_t generals[32])
 {
@@ -75,15 +82,19 @@ static void print_report(const char *name, const uint8_t *book, size_t len)
 
 int main(void)
 {
-    uint8_t spoiled[sizeof classes];
+    uint8_t spoiled[sizeof classes], ended[sizeof floating];
 
     memcpy(spoiled, classes, sizeof classes);
     spoiled[8 + 3 * 16 + 8] = 0; /* the last row: both amounts are 0 */
+    memcpy(ended, floating, sizeof floating);
+    ended[8 + 4] = 89, ended[8 + 5] = 0; /* final maturity a day before the fixing */
     print_report("equity book", equity, sizeof equity);
     print_report("zones book", zones, sizeof zones);
     print_report("book of four classes", classes, sizeof classes);
     print_report("book of two currencies", currencies, sizeof currencies);
+    print_report("book of a floating-rate note", floating, sizeof floating);
     print_report("equity book without its last byte", equity, sizeof equity - 1);
     print_report("book of four classes, its last row bad", spoiled, sizeof spoiled);
+    print_report("book of a floating-rate note that ends before its fixing", ended, sizeof ended);
     return 0;
 }

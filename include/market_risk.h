@@ -1,10 +1,15 @@
 /* The charges for standardised market risk: the C interface of the proved library.
  *
- * A book is document 01's book file, as bytes in memory. Every call writes every entry
- * of its result. The first three entries are always the refusal:
+ * A book is document 01's book file, as bytes in memory. An interest row of kind 4 is a
+ * floating-rate note: bytes 2-3 are the days to its next fixing, bytes 4-5 those to final
+ * maturity. Every call writes every entry of its result. The first three entries are always
+ * the refusal:
  *
- *     number   0 when the call is accepted, else document 01's number, 1 to 12
+ *     number   0 when the call is accepted, else document 01's number, 1 to 12, or document
+ *              02's 15: a floating-rate note with fixing over 360 days, or final maturity
+ *              over 36,000 or before fixing
  *     row      the refused row, counted from 0 through the whole file; 0 for all but 4 to 9
+ *              and 15
  *     book     1 for a fault of the second book of a join, else 0
  *
  * When the number is not 0, every other entry is 0. Charges are in mils, thousandths of

@@ -6,5 +6,6 @@ pub mod Bodies
 pub mod Walking
 pub mod Searching
 pub mod Passing
+pub mod Terms
 pub mod Acceptance
 pub mod Handing

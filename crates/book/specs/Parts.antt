@@ -6,7 +6,7 @@ use lib.Dec.{eqb}
 use Rattle.book.specs.Counts.{bodyOf}
 use Rattle.book.specs.Refusals.{refusalOf}
 
--- none of 1 to 9 applies (document 01, Joining)
+-- none of 1 to 9, nor 15, applies (document 01, Joining; P5)
 unfoldable pub accepts : List ℕ → Bool
 accepts s = eqb (refusalOf s .number) 0
 

@@ -33,8 +33,8 @@ unfolding amounts
 amounts-within class = every-bound (λ row. row .long + row .short) mostAmount (amount-within class)
 
 -- no specific weight is over 800 basis points
-by-kind : (kind a b c : ℕ) → a ≤ 800 → b ≤ 800 → c ≤ 800 → cond (eqb kind 1) a (cond (eqb kind 2) b (cond (eqb kind 3) c 0)) ≤ 800
-by-kind kind a b c ha hb hc = either (eqb kind 1) a _ ha (either (eqb kind 2) b _ hb (either (eqb kind 3) c 0 hc (omega arith)))
+by-kind : (kind a b c d : ℕ) → a ≤ 800 → b ≤ 800 → c ≤ 800 → d ≤ 800 → cond (eqb kind 1) a (cond (eqb kind 2) b (cond (eqb kind 3) c d)) ≤ 800
+by-kind kind a b c d ha hb hc hd = either (eqb kind 1) a _ ha (either (eqb kind 2) b _ hb (either (eqb kind 3) c d hc hd))
 
 qualifying-within : (days : ℕ) → qualifyingWeight days ≤ 800
 unfolding qualifyingWeight
@@ -43,8 +43,10 @@ qualifying-within days = either (leb days 180) 25 _ (omega arith) (either (leb d
 pub weight-within : (class : ℕ) (row : Row) → specificWeight class row ≤ 800
 unfolding specificWeight interestWeight equityWeight
 weight-within class row =
-    either (eqb class 1) (interestWeight row) _ (by-kind (row .kind) 0 (qualifyingWeight (row .days)) 800 (omega arith) (qualifying-within (row .days)) (omega arith))
-    (either (eqb class 2) (equityWeight row) 0 (by-kind (row .kind) 800 400 200 (omega arith) (omega arith) (omega arith)) (omega arith))
+    either (eqb class 1) (interestWeight row) _
+    (by-kind (row .kind) 0 (qualifyingWeight (row .days)) 800 _ (omega arith) (qualifying-within (row .days)) (omega arith)
+    (either (eqb (row .kind) 4) (qualifyingWeight (row .coupon)) 0 (qualifying-within (row .coupon)) (omega arith)))
+    (either (eqb class 2) (equityWeight row) 0 (by-kind (row .kind) 800 400 200 0 (omega arith) (omega arith) (omega arith) (omega arith)) (omega arith))
 
 -- the specific charge is at most 8% of the amounts
 pub specific-within : (class : ℕ) (rows : List Row) → sumOf (specificOf class) rows ≤ eightPerCent * amounts rows

@@ -14,7 +14,7 @@ use Rattle.book.proofs.Placing.{of-four}
 use Rattle.ladder.specs.Commodity.{commodityBandCount}
 use Rattle.ladder.specs.Inner.Steps.{bandCount}
 use Rattle.charges.proofs.Columns.{first-within}
-use Rattle.charges.specs.Bands.{firstBand, highColumn, lowColumn, commodityColumn, interestBand, commodityBand, bandIn}
+use Rattle.charges.specs.Bands.{firstBand, highColumn, lowColumn, commodityColumn, lowCoupon, interestBand, commodityBand, bandIn}
 use Rattle.charges.specs.Inner.Slots.{groupCount, slotCount, slotAt, legSlot, groupSlot, legWith}
 
 -- ---- a band is one of its class's
@@ -26,7 +26,7 @@ pub interest-below : (row : Row) → interestBand row < 15
 unfolding interestBand
 interest-below row =
     let days = row .days in
-    let most : interestBand row ≤ 14 = either (ltb (row .coupon) 300) (firstBand days lowColumn) _ (omega (arith, first-within days lowColumn)) (omega (arith, first-within days highColumn)) in
+    let most : interestBand row ≤ 14 = either (lowCoupon row) (firstBand days lowColumn) _ (omega (arith, first-within days lowColumn)) (omega (arith, first-within days highColumn)) in
     omega (arith, most)
 
 pub commodity-below : (row : Row) → commodityBand row < 7

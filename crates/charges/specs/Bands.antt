@@ -1,6 +1,6 @@
 -- The bands of a row, by its days and, in interest, its coupon (document 01, Interest: bands and zones; The commodities ladder).
 use Prim.Native.Nat.{ℕ, suc}
-use mathlib.Core.Bool.{cond}
+use mathlib.Core.Bool.{Bool, cond, not, _&&_}
 use mathlib.Core.List.{List, [], _∷_}
 use lib.Dec.{ltb, eqb}
 use Rattle.book.specs.declared.Row.{Row}
@@ -18,9 +18,13 @@ highColumn = 30 ∷ 90 ∷ 180 ∷ 360 ∷ 720 ∷ 1080 ∷ 1440 ∷ 1800 ∷ 25
 abbrev pub lowColumn : List ℕ
 lowColumn = 30 ∷ 90 ∷ 180 ∷ 360 ∷ 684 ∷ 1008 ∷ 1296 ∷ 1548 ∷ 2052 ∷ 2628 ∷ 3348 ∷ 3816 ∷ 4320 ∷ 7200 ∷ []
 
--- the band of an interest row (document 01, Interest: bands and zones)
+-- a coupon below 300; a floating-rate note, kind 4, takes the column of coupon 300 (document 01, Interest: bands and zones; P5)
+unfoldable pub lowCoupon : Row → Bool
+lowCoupon row = not (eqb (row .kind) 4) && ltb (row .coupon) 300
+
+-- the band of an interest row, by its days to maturity or to the next fixing (document 01, Interest: bands and zones)
 unfoldable pub interestBand : Row → ℕ
-interestBand row = cond (ltb (row .coupon) 300) (firstBand (row .days) lowColumn) (firstBand (row .days) highColumn)
+interestBand row = cond (lowCoupon row) (firstBand (row .days) lowColumn) (firstBand (row .days) highColumn)
 
 -- the last days of a commodity's bands; band 6 is over 1080 (document 01, The commodities ladder)
 abbrev pub commodityColumn : List ℕ

@@ -8,12 +8,14 @@ use Rattle.book.specs.declared.Row.{Row}
 unfoldable pub qualifyingWeight : ℕ → ℕ
 qualifyingWeight days = cond (leb days 180) 25 (cond (leb days 720) 100 160)
 
--- government, qualifying, other (document 01, Interest: bands and zones)
+-- government, qualifying, other; and a floating-rate note, qualifying paper by its final maturity, which its bytes 4-5 hold (document 01,
+-- Interest: bands and zones; P5)
 unfoldable pub interestWeight : Row → ℕ
 interestWeight row =
     cond (eqb (row .kind) 1) 0
     (cond (eqb (row .kind) 2) (qualifyingWeight (row .days))
-    (cond (eqb (row .kind) 3) 800 0))
+    (cond (eqb (row .kind) 3) 800
+    (cond (eqb (row .kind) 4) (qualifyingWeight (row .coupon)) 0)))
 
 -- ordinary, liquid and well diversified, index (document 01, Equity and foreign exchange)
 unfoldable pub equityWeight : Row → ℕ

@@ -7,7 +7,7 @@ ghost use Prim.Native.Nat.{_+_, _<_, _≤_};
 ghost use lib.ListN.{length, getD};
 ghost use Rattle.ladder.specs.Commodity.{commodityBandCount};
 ghost use Rattle.ladder.specs.Inner.Steps.{bandCount};
-ghost use Rattle.charges.specs.Bands.{firstBand, interestBand, commodityBand, bandIn};
+ghost use Rattle.charges.specs.Bands.{firstBand, lowCoupon, interestBand, commodityBand, bandIn};
 ghost use Rattle.charges.specs.Inner.Columns.{ascending, columnSize, columns as allColumns, columnFrom};
 
 // The places of a column, and of three columns.
@@ -104,12 +104,19 @@ fn first_band(columns: &[u16; PLACES], first: usize, days: u16) -> usize
         + ((columns[at + 2] < days) as usize)
 }
 
+// A coupon below 300; a floating-rate note takes the column of coupon 300.
+fn low_coupon(row: Row) -> bool
+    ensures { λ r. ⌜ r ≡ lowCoupon row ⌝ }
+{
+    row.kind != 4 && row.coupon < 300
+}
+
 // The band of an interest row.
 pub fn interest_band(row: Row, columns: &[u16; PLACES]) -> usize
     requires { ⌜ now columns ≡ allColumns ⌝ }
     ensures { λ r. ⌜ (r ≡ interestBand row) × (r < bandCount) ⌝ }
 {
-    first_band(columns, COLUMN * ((row.coupon < 300) as usize), row.days)
+    first_band(columns, COLUMN * (low_coupon(row) as usize), row.days)
 }
 
 // The band of a commodity row.

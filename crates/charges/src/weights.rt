@@ -1,7 +1,7 @@
 // Specific weights, in basis points.
 use book::Row;
 ghost use mathlib.Core.Path.{_≡_};
-ghost use mathlib.Core.Bool.{cond};
+ghost use mathlib.Core.Bool.{cond, _||_};
 ghost use lib.Dec.{eqb};
 ghost use Rattle.charges.specs.Weights.{qualifyingWeight, interestWeight, equityWeight, specificWeight};
 ghost use Rattle.charges.specs.Charges.{specificOf};
@@ -30,13 +30,31 @@ fn fixed_weight(kind: u8) -> u64
     }
 }
 
-// Government, qualifying and other paper. Both weights are found before one is chosen: so no branch depends on the kind.
+// The days that specific risk goes by: to maturity, of a floating-rate note to its final maturity.
+fn maturity(row: Row) -> u16
+    ensures { λ r. ⌜ r ≡ cond (eqb (row .kind) 4) (row .coupon) (row .days) ⌝ }
+{
+    if row.kind == 4 { row.coupon } else { row.days }
+}
+
+// Qualifying paper, fixed or floating.
+fn is_qualifying(kind: u8) -> bool
+    ensures { λ r. ⌜ r ≡ (eqb kind 2 || eqb kind 4) ⌝ }
+{
+    kind == 2 || kind == 4
+}
+
+// Government, qualifying and other paper, and floating-rate notes. Both weights are found before one is chosen: so no branch depends on the kind.
 fn interest_weight(row: Row) -> u64
     ensures { λ r. ⌜ r ≡ interestWeight row ⌝ }
 {
-    let qualifying = qualifying_weight(row.days);
+    let qualifying = qualifying_weight(maturity(row));
     let fixed = fixed_weight(row.kind);
-    if row.kind == 2 { qualifying } else { fixed }
+    if is_qualifying(row.kind) {
+        qualifying
+    } else {
+        fixed
+    }
 }
 
 // Ordinary shares, liquid and well diversified portfolios, indices.

@@ -16,7 +16,7 @@ use Rattle.ladder.specs.Nets.{absoluteNets, shorthand}
 use Rattle.ladder.specs.Rows.{weighing, AtMostTwoZones}
 use Rattle.ladder.proofs.Netting.{absolutes-joined, absolutes-mirrored, shorthand-joined, shorthand-mirrored}
 use Rattle.ladder.proofs.Books.{Exchanges, currency-joined, general-joined, commodity-joined, nets-joined, grouped-permuted, groupsOf-permuted, general-mirrored, commodity-mirrored, nets-mirrored}
-use Rattle.charges.specs.Bands.{interestBand, commodityBand, bandIn}
+use Rattle.charges.specs.Bands.{lowCoupon, interestBand, commodityBand, bandIn}
 use Rattle.charges.specs.Weights.{interestWeight, equityWeight, specificWeight}
 use Rattle.charges.specs.Charges.{eightPerCent, groups, currencies, reading, specificOf, specificCharge, interestFiguresOf, commodityFiguresOf}
 use Rattle.charges.specs.Charges.{interestGeneral, equityGeneral, exchangeGeneral, commodityGeneral, interestRisk, equityRisk, ofGroup, byCurrency}
@@ -65,7 +65,7 @@ mirroredLeg row =
     record { group = row .group; kind = row .kind; days = row .days; coupon = row .coupon; issue = row .issue; long = row .short; short = row .long }
 
 mirrored-exchanges : (class : ℕ) → Exchanges (reading class) mirroredLeg
-unfolding bandIn interestBand commodityBand
+unfolding bandIn lowCoupon interestBand commodityBand
 mirrored-exchanges class =
     record { same-group = λ row. refl; same-band = λ row. refl; to-long = λ row. refl; to-short = λ row. refl }
 

@@ -9,7 +9,7 @@ use Rattle.book.specs.Fields.{u16At, u32At}
 use Rattle.book.specs.Counts.{countsOf, countIn, rowsBefore, rowCount, bodyBy, bodyOf}
 use Rattle.book.specs.Rows.{chunks, rowsIn, rowsOf, decode}
 use Rattle.book.specs.Legs.{legsOf, ofClass}
-use Rattle.book.specs.Refusals.{leastKind, mostKind, mostDays, mostCoupon, groupRefusal, termsRefusal, amountsRefusal, orElse, rowRefusal, contentsRefusal, refused, firstRefusal, refusalOf}
+use Rattle.book.specs.Refusals.{leastKind, mostKind, mostDays, mostCoupon, floating, groupRefusal, plainRefusal, noteRefusal, termsRefusal, amountsRefusal, orElse, rowRefusal, contentsRefusal, refused, firstRefusal, refusalOf}
 use Rattle.book.specs.Parts.{accepts}
 use Rattle.ladder.specs.Position.{matched, net, total, vertical}
 use Rattle.ladder.specs.Table.{weightIn}
@@ -17,7 +17,7 @@ use Rattle.ladder.specs.Interest.{against, left, zones12, zones23, zones13, cro
 use Rattle.ladder.specs.Commodity.{toBand, carry}
 use Rattle.layout.specs.Written.{written}
 use Rattle.layout.specs.Files.{twoBytes, fourBytes, rowBytes, contentsBytes, fileOf, legCounts, bookOf}
-use Rattle.charges.specs.Bands.{firstBand, interestBand, commodityBand, bandIn}
+use Rattle.charges.specs.Bands.{firstBand, lowCoupon, interestBand, commodityBand, bandIn}
 use Rattle.charges.specs.Weights.{qualifyingWeight, interestWeight, equityWeight, specificWeight}
 use Rattle.charges.specs.Charges.{specificOf, specificCharge, interestFiguresOf, commodityFiguresOf, interestGeneral, equityGeneral, exchangeGeneral, commodityGeneral, interestRisk, equityRisk, ofGroup, byCurrency}
 use Rattle.charges.specs.Report.{reportWith, refusedReport, chargedReport, reportOf, ladderRefusal, interestLadderOf, commodityLadderOf}
@@ -33,7 +33,7 @@ unfolding sumOf span flatMap u16At u32At countsOf countIn rowsBefore rowCount bo
 file facts = facts
 
 unfoldable refusals : List Worked → List Worked
-unfolding leastKind mostKind mostDays mostCoupon groupRefusal termsRefusal amountsRefusal orElse rowRefusal contentsRefusal refused firstRefusal refusalOf accepts
+unfolding leastKind mostKind mostDays mostCoupon floating groupRefusal plainRefusal noteRefusal termsRefusal amountsRefusal orElse rowRefusal contentsRefusal refused firstRefusal refusalOf accepts
 refusals facts = facts
 
 unfoldable ladders : List Worked → List Worked
@@ -45,7 +45,7 @@ unfolding written twoBytes fourBytes rowBytes contentsBytes fileOf legCounts boo
 writing facts = facts
 
 unfoldable weights : List Worked → List Worked
-unfolding firstBand interestBand commodityBand bandIn qualifyingWeight interestWeight equityWeight specificWeight
+unfolding firstBand lowCoupon interestBand commodityBand bandIn qualifyingWeight interestWeight equityWeight specificWeight
 weights facts = facts
 
 unfoldable charges : List Worked → List Worked

@@ -4,6 +4,7 @@ use mathlib.Core.List.{List, [], _∷_, _++_, map}
 use lib.ListN.{length, replicate}
 use Rattle.sums.specs.Sums.{span}
 use Rattle.book.specs.Rows.{decode}
+use Rattle.book.specs.Legs.{Leg}
 use Rattle.ladder.specs.Table.{standardTable, weightIn}
 use Rattle.layout.specs.Files.{twoBytes, rowBytes, bookOf}
 use Rattle.charges.specs.Bands.{commodityBand}
@@ -51,11 +52,22 @@ specificEdges =
     (leg 1 1 2 0 0 1 0 ∷ leg 1 1 2 180 0 0 10 ∷ leg 1 1 2 181 0 100 0 ∷ leg 1 1 2 720 0 1000 0 ∷ leg 1 1 2 721 0 10000 0
     ∷ leg 1 1 3 0 0 100000 0 ∷ [])
 
--- each kind of equity in two markets, and all four classes at once
+-- a floating-rate note fixing in so many days and ending in so many (P5)
+abbrev pub floatingNote : (group fixing final long short : ℕ) → Leg
+floatingNote group fixing final long short = leg 1 group 4 fixing final long short
+
+-- notes that end where the ranges of qualifying paper do
+abbrev pub finalEdges : List ℕ
+finalEdges = bookOf (floatingNote 1 90 180 1 0 ∷ floatingNote 1 90 181 0 10 ∷ floatingNote 1 90 720 100 0 ∷ floatingNote 1 90 721 1000 0 ∷ [])
+
+-- each kind of equity in two markets, and all four classes at once; a note fixing in 90 days and ending in 2,880 bears 160 basis points of specific
+-- risk, and in band 1 its ladder's charge
 unfoldable pub costFacts : List Worked
 costFacts =
     costs zoneEdges 0 1418000 0 0 0 0 1418000 8
     ∷ costs specificEdges 8171027500 193176000 0 0 0 0 8364203500 6
+    ∷ costs (bookOf (floatingNote 7 90 2880 1 0 ∷ [])) 16000 2000 0 0 0 0 18000 1
+    ∷ costs finalEdges 17102500 2184000 0 0 0 0 19286500 4
     ∷ costs (bookOf (commodity 1 36000 1 0 ∷ [])) 0 0 0 0 0 150000 150000 1
     ∷ costs (bookOf (commodity 1 0 1 0 ∷ [])) 0 0 0 0 0 186000 186000 1
     ∷ costs (bookOf (equity 3 1 100 0 ∷ equity 3 3 0 40 ∷ [])) 0 0 8800000 4800000 0 0 13600000 2
@@ -120,10 +132,18 @@ refusalFacts =
     ∷ refuses (second 31 0 0 0 2000000000 1) 8 1
     ∷ refuses (second 31 0 0 0 0 1000000001) 9 1
     ∷ refuses (first 0 0 0) 5 0
-    ∷ refuses (first 4 0 0) 5 0
+    ∷ refuses (first 5 0 0) 5 0
+    ∷ refuses (bookOf (equity 0 4 1 0 ∷ [])) 5 0
     ∷ refuses (first 1 36001 0) 6 0
     ∷ refuses (first 1 36000 10001) 7 0
     ∷ costs (first 3 0 10000) 80000 0 0 0 0 0 80000 1
+    ∷ refuses (first 4 361 36000) 15 0
+    ∷ refuses (first 4 360 36001) 15 0
+    ∷ refuses (first 4 360 359) 15 0
+    ∷ refuses (first 4 36001 10001) 15 0
+    ∷ refuses (bookOf (floatingNote 0 91 90 0 0 ∷ [])) 15 0
+    ∷ costs (first 4 360 360) 10000 7000 0 0 0 0 17000 1
+    ∷ costs (first 4 360 36000) 16000 7000 0 0 0 0 23000 1
     ∷ []
 
 -- joining: A's fault, B's fault, one byte short, long enough (number, row, book, length)

@@ -1,6 +1,7 @@
-//! A book as CSV text: one line a row, classes and kinds by name.
+//! A book as CSV text: one line a row, classes and kinds by name. Of a floating-rate note the
+//! column `days` holds the days to the next fixing, and `coupon` those to final maturity.
 
-use crate::names::{class_of, kind_name, kind_of, kinds, CLASS_NAMES};
+use crate::names::{class_of, floating, kind_name, kind_of, kinds, CLASS_NAMES};
 use crate::{Book, Row};
 use std::fmt;
 
@@ -43,6 +44,14 @@ fn choices<'a>(names: impl Iterator<Item = &'a str>) -> String {
     names.collect::<Vec<_>>().join(", ")
 }
 
+/// What a message calls the columns `days` and `coupon` of a row.
+fn terms(class: usize, kind: u8) -> [&'static str; 2] {
+    match floating(class, kind) {
+        true => ["days (to fixing)", "coupon (days to final maturity)"],
+        false => ["days", "coupon"],
+    }
+}
+
 /// The class and the row of one line.
 fn row(line: &str) -> Result<(usize, Row), String> {
     let fields: Vec<&str> = line.split(',').map(str::trim).collect();
@@ -53,12 +62,15 @@ fn row(line: &str) -> Result<(usize, Row), String> {
     let number =
         class_of(class).ok_or_else(|| format!("class is '{class}', not one of {}", known()))?;
     let known = || choices(kinds(number).iter().map(|(_, name)| *name));
+    let group = field("group", group)?;
+    let kind = kind_of(number, kind)
+        .ok_or_else(|| format!("kind is '{kind}', not one of {} for {class}", known()))?;
+    let [days_name, coupon_name] = terms(number, kind);
     let row = Row {
-        group: field("group", group)?,
-        kind: kind_of(number, kind)
-            .ok_or_else(|| format!("kind is '{kind}', not one of {} for {class}", known()))?,
-        days: field("days", days)?,
-        coupon: field("coupon", coupon)?,
+        group,
+        kind,
+        days: field(days_name, days)?,
+        coupon: field(coupon_name, coupon)?,
         issue: field("issue", issue)?,
         long: field("long", long)?,
         short: field("short", short)?,
@@ -160,12 +172,50 @@ mod tests {
         }
     }
 
+    /// Catches a note whose two maturities are exchanged, or that comes back as another kind.
+    #[test]
+    fn a_floating_rate_note_has_its_final_maturity_in_the_column_of_the_coupon() {
+        let line = "interest,7,floating,90,2880,5,1000,0";
+        let book = parse(&format!("{HEADER}\n{line}\n")).unwrap().book;
+        let note = Row {
+            group: 7,
+            kind: 4,
+            days: 90,
+            coupon: 2880,
+            issue: 5,
+            long: 1000,
+            short: 0,
+        };
+        assert_eq!(book.classes[0], [note]);
+        assert_eq!(write(&book), format!("{HEADER}\n{line}\n"));
+        // Kind 4 has no name in the other classes.
+        let row = note.with_days(0).with_coupon(0);
+        for class in 1..4 {
+            let mut book = Book::default();
+            book.classes[class].push(row);
+            let text = write(&book);
+            assert!(text.contains(",7,4,0,0,5,1000,0\n"), "{text}");
+            assert_eq!(parse(&text).unwrap().book, book);
+        }
+    }
+
     #[test]
     fn errors_name_the_line_and_the_field() {
         assert!(what("fx,1,none,0,0,0,5").starts_with("7 fields"));
         assert!(what("bonds,1,none,0,0,0,5,0").contains("interest, equity, fx, commodity"));
         assert!(what("equity,1,government,0,0,0,5,0")
             .contains("ordinary, diversified, index for equity"));
+        assert!(what("equity,1,floating,0,0,0,5,0").starts_with("kind is 'floating'"));
+        assert!(what("interest,1,float,90,2880,0,5,0")
+            .contains("government, qualifying, other, floating for interest"));
+        let maturity = what("interest,1,floating,90,8y,0,5,0");
+        assert_eq!(
+            maturity,
+            "coupon (days to final maturity) is '8y', not a whole number"
+        );
+        let fixing = what("interest,1,floating,65536,2880,0,5,0");
+        assert!(fixing.starts_with("days (to fixing) is 65536, too large"));
+        assert!(what("interest,1,other,90,8y,0,5,0").starts_with("coupon is '8y'"));
         assert!(what("fx,256,none,0,0,0,5,0").contains("group is 256"));
         assert!(what("fx,1,none,0,0,0,-5,0").contains("long is '-5'"));
         assert!(what("fx,1,none,0,0,0,5,").contains("short is ''"));

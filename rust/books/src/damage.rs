@@ -1,16 +1,50 @@
 //! Damage done to the bytes of a book.
 
+use crate::names::FLOATING;
 use crate::{Random, CLASSES, ROW_BYTES};
 
-/// Overwrites one field of one row with a value at or past its limit.
+/// Days to fixing and to final maturity at their limits and past them: fixing too late, final
+/// too late, final before fixing, each by itself and with others.
+const TERMS: [[u16; 2]; 12] = [
+    [0, 0],
+    [360, 360],
+    [360, 36_000],
+    [361, 361],
+    [361, 36_000],
+    [0, 36_001],
+    [360, 36_001],
+    [1, 0],
+    [360, 359],
+    [361, 360],
+    [361, 36_001],
+    [65_535, 65_535],
+];
+
+/// Makes a row a floating-rate note, broken or nearly so; now and then its group or its amounts
+/// are broken too. Outside interest there is no such kind.
+pub fn damage_note(random: &mut Random, row: &mut [u8]) {
+    let [fixing, maturity] = random.pick(&TERMS);
+    row[1] = FLOATING;
+    row[2..4].copy_from_slice(&fixing.to_le_bytes());
+    row[4..6].copy_from_slice(&maturity.to_le_bytes());
+    match random.below(16) {
+        0 => row[0] = 32,
+        1 => row[8..16].fill(random.pick(&[0, 1])),
+        _ => (),
+    }
+}
+
+/// Overwrites one field of one row with a value at or past its limit, or those of a
+/// floating-rate note.
 fn damage_row(random: &mut Random, row: &mut [u8]) {
-    let two =
-        |random: &mut Random| random.pick(&[1u16, 300, 10_000, 10_001, 36_000, 36_001, 65_535]);
-    match random.below(6) {
+    let limits = [1u16, 300, 360, 361, 10_000, 10_001, 36_000, 36_001, 65_535];
+    let two = |random: &mut Random| random.pick(&limits).to_le_bytes();
+    match random.below(7) {
         0 => row[0] = random.pick(&[31, 32, 33, 128, 255]),
-        1 => row[1] = random.pick(&[0, 1, 3, 4, 255]),
-        2 => row[2..4].copy_from_slice(&two(random).to_le_bytes()),
-        3 => row[4..6].copy_from_slice(&two(random).to_le_bytes()),
+        1 => row[1] = random.pick(&[0, 1, 3, 4, 5, 255]),
+        2 => row[2..4].copy_from_slice(&two(random)),
+        3 => row[4..6].copy_from_slice(&two(random)),
+        6 => damage_note(random, row),
         side => {
             let amounts = [0, 1, 1_000_000_000, 1_000_000_001, 2_000_000_000, u32::MAX];
             let at = if side == 4 { 8 } else { 12 };
@@ -70,6 +104,32 @@ mod tests {
             }
         }
         assert_eq!(seen, [true; 3]);
+    }
+
+    /// Catches a way to break a floating-rate note that is never tried by itself, and notes that
+    /// are not left whole at their limits.
+    #[test]
+    fn notes_are_broken_in_each_way() {
+        let note = [7, 4, 90, 0, 0x40, 0x0b, 0, 0, 5, 0, 0, 0, 0, 0, 0, 0];
+        let (mut whole, mut alone) = (0, [0; 3]);
+        for case in 0..3_000 {
+            let mut row = note;
+            damage_row(&mut Random::of_case(3, case), &mut row);
+            let two = |at: usize| u16::from_le_bytes([row[at], row[at + 1]]);
+            let (fixing, maturity) = (two(2), two(4));
+            let ways = [fixing > 360, maturity > 36_000, maturity < fixing];
+            let broken: Vec<usize> = (0..3).filter(|way| ways[*way]).collect();
+            match broken[..] {
+                _ if row[1] != FLOATING || row == note => (),
+                [] => whole += 1,
+                [way] => alone[way] += 1,
+                _ => (),
+            }
+        }
+        assert!(
+            whole > 60 && alone.iter().all(|count| *count > 60),
+            "{alone:?}"
+        );
     }
 
     #[test]

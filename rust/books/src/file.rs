@@ -14,7 +14,9 @@ pub const MOST_ROWS: usize = 4_000;
 pub struct Row {
     pub group: u8,
     pub kind: u8,
+    /// Days to maturity; of a floating-rate note, to the next fixing.
     pub days: u16,
+    /// The coupon; of a floating-rate note, the days to final maturity.
     pub coupon: u16,
     pub issue: u16,
     pub long: u32,

@@ -1,5 +1,6 @@
 //! Random books that are accepted and favour the edges.
 
+use crate::names::FLOATING;
 use crate::{Book, Random, Row, CLASSES};
 
 /// The groups of a class.
@@ -98,6 +99,53 @@ fn coupon(random: &mut Random) -> u16 {
     }
 }
 
+/// Days to fixing from 0 to 360, mostly at a band's end or one day off it.
+fn fixing(random: &mut Random) -> u16 {
+    match random.below(4) {
+        0 => random.below(361) as u16,
+        _ => random.pick(&[0, 1, 30, 31, 90, 91, 180, 181, 359, 360]),
+    }
+}
+
+/// A final maturity from the days to fixing to 36,000, mostly next to the fixing or to an end of
+/// the specific weights, a coupon's column or limit, or the range.
+fn maturity(random: &mut Random, fixing: u16) -> u16 {
+    let edges = [
+        180, 181, 299, 300, 720, 721, 2_880, 10_000, 10_001, 35_999, 36_000,
+    ];
+    let any = match random.below(4) {
+        0 => random.below(36_001) as u16,
+        1 => fixing + random.below(2) as u16,
+        _ => random.pick(&edges),
+    };
+    any.max(fixing)
+}
+
+/// Whether the next interest row is a floating-rate note: one in four, where zone 1 is not left
+/// out.
+fn is_note(random: &mut Random, without: Option<u8>) -> bool {
+    without != Some(1) && random.once_in(4)
+}
+
+/// A row as a floating-rate note.
+fn note(random: &mut Random, row: Row) -> Row {
+    let fixing = fixing(random);
+    let maturity = maturity(random, fixing);
+    row.with_kind(FLOATING)
+        .with_days(fixing)
+        .with_coupon(maturity)
+}
+
+/// A row as a bond of a fixed rate, of one of the first three kinds.
+fn bond(random: &mut Random, row: Row, without: Option<u8>) -> Row {
+    let row = row.with_kind(1 + random.below(3) as u8);
+    let mut bond = row.with_coupon(coupon(random)).with_days(days(random));
+    while Some(zone(bond.days, bond.coupon)) == without {
+        bond.days = days(random);
+    }
+    bond
+}
+
 /// An amount from 1 to 1,000,000,000.
 fn amount(random: &mut Random) -> u32 {
     match random.below(8) {
@@ -110,24 +158,19 @@ fn amount(random: &mut Random) -> u32 {
 
 /// A row that its class accepts.
 pub fn row(random: &mut Random, class: usize, shape: &Shape) -> Row {
-    let mut row = Row {
+    let row = Row {
         group: random.pick(&shape.groups),
         issue: random.draw() as u16,
         ..Row::default()
     };
-    if class < 2 {
-        row.kind = 1 + random.below(3) as u8;
-    }
-    if class == 0 {
-        row.coupon = coupon(random);
-    }
-    if class == 0 || class == 3 {
-        let without = shape.without[usize::from(row.group)];
-        row.days = days(random);
-        while class == 0 && Some(zone(row.days, row.coupon)) == without {
-            row.days = days(random);
-        }
-    }
+    let without = shape.without[usize::from(row.group)];
+    let mut row = match class {
+        0 if is_note(random, without) => note(random, row),
+        0 => bond(random, row, without),
+        1 => row.with_kind(1 + random.below(3) as u8),
+        3 => row.with_days(days(random)),
+        _ => row,
+    };
     match random.once_in(2) {
         true => row.long = amount(random),
         false => row.short = amount(random),
@@ -146,6 +189,13 @@ pub fn book(random: &mut Random, shape: &Shape) -> Book {
         };
         book.classes[class].push(row(random, class, shape));
     }
+    book
+}
+
+/// An accepted book of a shape, with interest rows alone.
+pub fn interest_rows(random: &mut Random, shape: &Shape) -> Book {
+    let mut book = Book::default();
+    book.classes[0] = (0..shape.rows).map(|_| row(random, 0, shape)).collect();
     book
 }
 
@@ -190,6 +240,34 @@ mod tests {
                 assert_ne!(zone(row.days, row.coupon), without);
             }
         }
+    }
+
+    /// Catches notes that are never made, that would be refused, or that miss an end of their
+    /// fields.
+    #[test]
+    fn one_interest_row_in_four_is_a_floating_rate_note() {
+        let mut random = Random::new(7);
+        let shape = Shape {
+            rows: 0,
+            groups: vec![4],
+            without: [None; GROUPS],
+        };
+        let rows: Vec<Row> = (0..8_000).map(|_| row(&mut random, 0, &shape)).collect();
+        let notes: Vec<&Row> = rows.iter().filter(|row| row.kind == FLOATING).collect();
+        assert!((1_700..2_300).contains(&notes.len()), "{}", notes.len());
+        for note in &notes {
+            assert!(note.days <= 360 && (note.days..=36_000).contains(&note.coupon));
+        }
+        for fixing in [0, 30, 31, 90, 91, 180, 181, 360] {
+            assert!(notes.iter().any(|note| note.days == fixing), "{fixing}");
+        }
+        for maturity in [0, 180, 181, 720, 721, 10_000, 10_001, 36_000] {
+            assert!(notes.iter().any(|note| note.coupon == maturity));
+        }
+        assert!(notes.iter().any(|note| note.coupon == note.days));
+        let others = rows.iter().filter(|row| row.kind != FLOATING);
+        assert!(others.clone().all(|row| (1..=3).contains(&row.kind)));
+        assert!(others.clone().all(|row| row.coupon <= 10_000));
     }
 
     /// Catches currencies that all leave the same zone out, or never use three beside others

@@ -1,14 +1,22 @@
-//! The names of classes and kinds in CSV text.
+//! The names of classes, kinds and fields.
 
 use crate::CLASSES;
 
 /// The classes by name, in file order.
 pub const CLASS_NAMES: [&str; CLASSES] = ["interest", "equity", "fx", "commodity"];
 
+/// The kind of floating-rate notes, in interest.
+pub const FLOATING: u8 = 4;
+
 /// The kinds that a class knows, by number and name.
 pub fn kinds(class: usize) -> &'static [(u8, &'static str)] {
     match class {
-        0 => &[(1, "government"), (2, "qualifying"), (3, "other")],
+        0 => &[
+            (1, "government"),
+            (2, "qualifying"),
+            (3, "other"),
+            (FLOATING, "floating"),
+        ],
         1 => &[(1, "ordinary"), (2, "diversified"), (3, "index")],
         2 | 3 => &[(0, "none")],
         _ => &[],
@@ -35,6 +43,12 @@ pub fn kind_of(class: usize, name: &str) -> Option<u8> {
     (kind_name(class, number) == name).then_some(number)
 }
 
+/// Whether rows of a class and kind are floating-rate notes: their days run to the next fixing,
+/// and the place of the coupon holds the days to final maturity.
+pub fn floating(class: usize, kind: u8) -> bool {
+    class == 0 && kind == FLOATING
+}
+
 #[cfg(test)]
 mod tests {
     use super::*;
@@ -46,11 +60,27 @@ mod tests {
                 assert_eq!(kind_of(class, &kind_name(class, kind)), Some(kind));
             }
         }
+        assert_eq!(kind_of(0, "floating"), Some(4));
+        assert_eq!(kind_of(0, "4"), None);
+        assert_eq!(kind_of(1, "floating"), None);
+        assert_eq!(kind_of(1, "4"), Some(4));
         assert_eq!(kind_of(0, "1"), None);
         assert_eq!(kind_of(0, "+7"), None);
         assert_eq!(kind_of(0, "index"), None);
         assert_eq!(kind_of(2, "none"), Some(0));
         assert_eq!(kind_of(2, "256"), None);
+    }
+
+    /// Catches kind 4 of another class that is taken for a floating-rate note.
+    #[test]
+    fn floating_rates_are_kind_4_of_interest() {
+        for class in 0..CLASSES {
+            for kind in 0..=255 {
+                let named = kind_name(class, kind) == "floating";
+                assert_eq!(floating(class, kind), named);
+                assert_eq!(named, (class, kind) == (0, 4));
+            }
+        }
     }
 
     #[test]

@@ -24,9 +24,12 @@ struct totals {
 
 static inline void take_interest(struct nets *nets, struct totals *totals, const uint8_t *row) {
     uint64_t head = word(row), amounts = word(row + 8);
-    uint32_t group = head & 31, kind = head >> 8 & 3, days = (uint16_t)(head >> 16);
-    uint32_t band = INTEREST[(uint16_t)(head >> 32) < 300][CELL(days)];
-    __m128i weights = _mm_set_epi64x(SPECIFIC[kind][(days > 180) + (days > 720)], WEIGHT[band]);
+    uint32_t group = head & 31, kind = head >> 8 & 7, days = (uint16_t)(head >> 16);
+    uint32_t coupon = (uint16_t)(head >> 32), floating = -(kind >> 2);
+    uint32_t maturity = days ^ (floating & (days ^ coupon));
+    uint32_t band = INTEREST[coupon < 300][CELL(days)];
+    uint32_t specific = SPECIFIC[kind][(maturity > 180) + (maturity > 720)];
+    __m128i weights = _mm_set_epi64x(specific, WEIGHT[band]);
     __m128i weighted = _mm_mul_epu32(weights, _mm_set1_epi64x(amount_of(amounts)));
     struct currency *currency = &nets->interest[group];
     currency->sums = _mm_add_epi64(currency->sums, weighted);

@@ -9,7 +9,8 @@
 #define FROM(after, last) [CELL(after) + 1 ... CELL(last)]
 #define OVER(after) [CELL(after) + 1 ... CELLS - 1]
 
-/* The interest band of each cell: coupons of 300 and more, then those below. */
+/* The interest band of each cell: coupons of 300 and more, then those below. Up to 360 days they
+ * are the same, so that either column serves a floating-rate note. */
 static const uint8_t INTEREST[2][CELLS] = {
     {UP_TO(30) = 0, FROM(30, 90) = 1, FROM(90, 180) = 2, FROM(180, 360) = 3,
      FROM(360, 720) = 4, FROM(720, 1080) = 5, FROM(1080, 1440) = 6, FROM(1440, 1800) = 7,
@@ -29,6 +30,8 @@ static const uint8_t COMMODITY[CELLS] = {
 static const int64_t WEIGHT[16] = {0,   20,  40,  70,  125, 175, 225,  275,
                                    325, 375, 450, 525, 600, 800, 1250, 0};
 
-/* Specific weights by kind: of interest up to 180 days, 720 and over; of equity. */
-static const uint32_t SPECIFIC[4][4] = {{0}, {0}, {25, 100, 160}, {800, 800, 800}};
+/* Specific weights by kind: of interest by final maturity, up to 180 days, 720 and over; of
+ * equity. */
+static const uint32_t SPECIFIC[8][4] = {
+    {0}, {0}, {25, 100, 160}, {800, 800, 800}, {25, 100, 160}};
 static const uint32_t EQUITY[4] = {0, 800, 400, 200};

@@ -29,14 +29,22 @@ pub struct Sums {
     pub commodities: u32,
 }
 
-/// Adds a row to its interest band and gives its place in the specific weights.
+/// Adds a row to its interest band.
 #[inline(always)]
-pub fn add_interest(bands: &mut Currency, row: Row) -> usize {
-    let place = usize::from(INTEREST[usize::from(row.coupon() < 300)][cell(row.days())]);
-    let weight = WEIGHTS[place & 15];
-    bands[place & 15][0] += weight * row.long();
-    bands[place & 15][1] += weight * row.short();
-    place >> 4
+pub fn add_interest(bands: &mut Currency, row: Row) {
+    let column = usize::from(row.coupon() < 300);
+    let band = usize::from(INTEREST[column][cell(row.days())] & 15);
+    let weight = WEIGHTS[band];
+    bands[band][0] += weight * row.long();
+    bands[band][1] += weight * row.short();
+}
+
+/// The specific weight of an interest row, by its kind and its final maturity.
+#[inline(always)]
+fn specific(row: Row) -> u64 {
+    let maturity = row.maturity();
+    let term = usize::from(maturity > 180) + usize::from(maturity > 720);
+    SPECIFIC[row.kind()][term]
 }
 
 /// Adds a row to its commodity band.
@@ -76,8 +84,8 @@ impl Sums {
         let mut used = 0;
         let taken = book.each(0, |row| {
             let currency = &mut self.interest[row.group()];
-            let place = add_interest(currency, row);
-            currency[SUM][0] += row.amount() * SPECIFIC[(4 * row.kind() + place) & 15];
+            add_interest(currency, row);
+            currency[SUM][0] += row.amount() * specific(row);
             used |= 1 << row.group();
         })?;
         self.currencies = used;

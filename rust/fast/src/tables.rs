@@ -13,11 +13,20 @@ const LOW: [usize; 14] = [
     30, 90, 180, 360, 684, 1008, 1296, 1548, 2052, 2628, 3348, 3816, 4320, 7200,
 ];
 
-/// Specific weights of interest rows: four for each kind, by days up to 180, 720 and over.
-pub static SPECIFIC: [u64; 16] = [0, 0, 0, 0, 0, 0, 0, 0, 25, 100, 160, 0, 800, 800, 800, 0];
+/// Specific weights of interest rows, by kind, and by final maturity up to 180 days, 720 and over.
+pub static SPECIFIC: [[u64; 4]; 8] = [
+    [0; 4],
+    [0; 4],
+    [25, 100, 160, 0],
+    [800, 800, 800, 0],
+    [25, 100, 160, 0],
+    [0; 4],
+    [0; 4],
+    [0; 4],
+];
 
 /// Specific weights of equity rows, by kind.
-pub static EQUITY: [u64; 4] = [0, 800, 400, 200];
+pub static EQUITY: [u64; 8] = [0, 800, 400, 200, 0, 0, 0, 0];
 
 /// Days share a cell by sixes: every last day is a multiple of 6.
 const CELLS: usize = 65_535 / 6 + 2;
@@ -31,18 +40,19 @@ pub fn cell(days: u16) -> usize {
     (usize::from(days) + 5) / 6
 }
 
-/// The interest band of each cell and, from bit 4 on, the days' place in `SPECIFIC`.
-pub static INTEREST: [Cells; 2] = [cells(&HIGH, &[180, 720]), cells(&LOW, &[180, 720])];
+/// The interest band of each cell. Both columns have the same bands up to 360 days, so that for
+/// a floating-rate note it does not matter which one its final maturity picks as if a coupon.
+pub static INTEREST: [Cells; 2] = [cells(&HIGH), cells(&LOW)];
 
 /// The commodity band of each cell.
-pub static COMMODITY: Cells = cells(&[30, 90, 180, 360, 720, 1080], &[]);
+pub static COMMODITY: Cells = cells(&[30, 90, 180, 360, 720, 1080]);
 
-/// How many of the ends lie before each cell: of the first ones, and 16 times the second.
-const fn cells(low: &[usize], high: &[usize]) -> Cells {
+/// How many of the ends lie before each cell.
+const fn cells(ends: &[usize]) -> Cells {
     let mut table = [0; CELLS];
     let mut cell = 0;
     while cell < CELLS {
-        table[cell] = (before(low, 6 * cell) + 16 * before(high, 6 * cell)) as u8;
+        table[cell] = before(ends, 6 * cell) as u8;
         cell += 1;
     }
     table

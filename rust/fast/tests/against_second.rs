@@ -17,7 +17,7 @@ fn random_book(random: &mut Random, rows: usize) -> Vec<u8> {
 
 #[test]
 fn random_and_damaged_books() {
-    let mut seen = [0; 10];
+    let mut seen = [0; 16];
     for case in 0..6_000 {
         let mut random = Random::of_case(11, case);
         let rows = match case % 500 {
@@ -28,7 +28,8 @@ fn random_and_damaged_books() {
         compare(&bytes, random.below(34) as usize);
         seen[second::check(&bytes).number as usize] += 1;
     }
-    assert!(seen.iter().all(|count| *count > 0), "{seen:?}");
+    let (book, note) = (&seen[..10], seen[15]);
+    assert!(book.iter().all(|count| *count > 0) && note > 0, "{seen:?}");
 }
 
 /// Catches a list of the currencies that is right where there is one alone.
@@ -45,7 +46,7 @@ fn books_of_several_currencies() {
 
 #[test]
 fn random_and_damaged_joins() {
-    let mut seen = [0; 13];
+    let mut seen = [0; 16];
     for case in 0..6_000 {
         let mut random = Random::of_case(12, case);
         let most = if case % 100 == 0 { 3_000 } else { 12 };
@@ -58,7 +59,7 @@ fn random_and_damaged_joins() {
     }
     let (none, ladder) = (seen[0], seen[10]);
     assert!(none > 0 && ladder == 0, "{seen:?}");
-    let others = seen[1..10].iter().chain(&seen[11..]);
+    let others = seen[1..10].iter().chain(&seen[11..13]).chain(&seen[15..]);
     assert!(others.clone().all(|count| *count > 0), "{seen:?}");
 }
 
@@ -133,6 +134,50 @@ fn every_value_of_each_field_in_each_class() {
     }
 }
 
+/// A floating-rate note of interest.
+fn note(fixing: u16, maturity: u16) -> Row {
+    let row = plain(0).with_kind(4);
+    row.with_days(fixing).with_coupon(maturity)
+}
+
+/// Catches a weight by the wrong maturity, a limit that is off by a day, and a note that is taken
+/// for a bond among bonds, or a bond for a note among notes.
+#[test]
+fn floating_rate_notes_at_every_limit() {
+    let edges = [
+        0, 1, 30, 31, 90, 91, 180, 181, 299, 300, 359, 360, 361, 719, 720, 721, 10_000, 10_001,
+        32_767, 32_768, 35_999, 36_000, 36_001, 65_535,
+    ];
+    for (fixing, maturity) in edges.iter().flat_map(|one| edges.map(|two| (*one, two))) {
+        let note = note(fixing, maturity);
+        for place in [0, 3, 6, 8] {
+            compare(&changed(0, place, note), 3);
+            compare(&changed(0, place, note.with_group(32)), 3);
+            compare(&changed(0, place, note.with_sides(1, 1)), 3);
+        }
+    }
+    for (place, kind) in (0..9).flat_map(|place| (0..8).map(move |kind| (place, kind))) {
+        let mut book = Book::default();
+        book.classes[0] = vec![note(90, 36_000); 9];
+        book.classes[0][place].kind = kind;
+        compare(&book.encode().unwrap(), 3);
+        book.classes[0][place].days = 361;
+        compare(&book.encode().unwrap(), 3);
+    }
+}
+
+/// Catches kind 4 of another class that is let in.
+#[test]
+fn notes_of_other_classes() {
+    for class in 0..4 {
+        for (days, coupon) in [(0, 0), (90, 2_880), (361, 361), (90, 36_001), (90, 89)] {
+            let row = plain(class).with_kind(4);
+            let row = row.with_days(days).with_coupon(coupon);
+            (0..9).for_each(|place| compare(&changed(class, place, row), 3));
+        }
+    }
+}
+
 #[test]
 fn every_day_of_the_bands() {
     for days in (0..=7_210).chain([35_999, 36_000, 36_001, u16::MAX]) {
@@ -140,5 +185,12 @@ fn every_day_of_the_bands() {
             let row = plain(class).with_kind(kind).with_coupon(coupon);
             compare(&changed(class, 5, row.with_days(days)), 3);
         }
+    }
+    for days in 0..=361 {
+        compare(&changed(0, 5, note(days, days)), 3);
+        compare(&changed(0, 5, note(days, 36_000)), 3);
+    }
+    for days in (0..=7_210).chain([35_999, 36_000, 36_001, u16::MAX]) {
+        compare(&changed(0, 5, note(60, days)), 3);
     }
 }

@@ -109,6 +109,12 @@ fn list(out: &[u64; 75], first: usize) -> [u64; 32] {
 /// assert_eq!((report.specifics[31], report.generals[31]), (0, 20_000));
 /// assert_eq!(report.specifics.iter().sum::<u64>(), report.interest_specific);
 /// assert_eq!(report.generals.iter().sum::<u64>(), report.interest_general);
+/// // A floating-rate note, kind 4, long 10: 90 days to its next fixing, where it bears 0.20%,
+/// // and 2,880 (0x0b40) to final maturity in the place of the coupon, which cost 1.60%.
+/// let mut book = vec![1, 0, 0, 0, 0, 0, 0, 0];
+/// book.extend([7, 4, 90, 0, 0x40, 0x0b, 0, 0, 10, 0, 0, 0, 0, 0, 0, 0]);
+/// let report = market_risk::charge(&book)?;
+/// assert_eq!((report.interest_specific, report.interest_general), (160_000, 20_000));
 /// # Ok::<(), market_risk::Refusal>(())
 /// ```
 pub fn charge(book: &[u8]) -> Result<Report, Refusal> {

@@ -3,17 +3,22 @@
 use std::error::Error;
 use std::fmt;
 
-/// A refused call: document 01's number, the row and the book.
+/// A refused call: the number of document 01 or 02, the row and the book.
 ///
 /// ```
 /// let refusal = market_risk::check(&[]).unwrap_err();
 /// assert_eq!(refusal.to_string(), "refused 1: fewer than 8 bytes");
+/// // A floating-rate note with 90 days to its next fixing and 89 to final maturity.
+/// let mut book = vec![1, 0, 0, 0, 0, 0, 0, 0];
+/// book.extend([7, 4, 90, 0, 89, 0, 0, 0, 10, 0, 0, 0, 0, 0, 0, 0]);
+/// let refusal = market_risk::check(&book).unwrap_err();
+/// assert_eq!((refusal.number, refusal.row), (15, 0));
 /// ```
 #[derive(Clone, Copy, Debug, PartialEq, Eq)]
 pub struct Refusal {
-    /// 1 to 12.
+    /// 1 to 12, or 15.
     pub number: u64,
-    /// The bad row, counted from 0 through the whole file; 0 for all but 4 to 9.
+    /// The bad row, counted from 0 through the whole file; 0 for all but 4 to 9 and 15.
     pub row: u64,
     /// 1 for a fault of the second book of a join, else 0.
     pub book: u64,
@@ -34,7 +39,7 @@ impl Refusal {
 
     /// Whether the refusal is of one row.
     pub fn names_row(&self) -> bool {
-        (4..=9).contains(&self.number)
+        matches!(self.number, 4..=9 | 15)
     }
 
     /// The reason in words.
@@ -52,6 +57,7 @@ impl Refusal {
             10 => "ladder group over 31",
             11 => "more than 4,000 rows joined",
             12 => "output shorter than the joined book",
+            15 => "fixing over 360 days, or final maturity over 36,000 or before fixing",
             _ => "no reason that this interface knows",
         }
     }

@@ -73,6 +73,70 @@ fn refusals_carry_number_row_and_book() {
     assert_eq!(joined(&[], &[]).unwrap_err().number, 1);
 }
 
+/// A floating-rate note of currency 7, long 1.
+fn note(fixing: u16, maturity: u16) -> [u8; 16] {
+    let mut row = bond(fixing, 1);
+    row[1] = 4;
+    row[4..6].copy_from_slice(&maturity.to_le_bytes());
+    row
+}
+
+/// The request's own note: 160 basis points of specific risk and not 25, and 0.20% in band 1.
+#[test]
+fn a_floating_rate_note_is_charged_by_fixing_and_final_maturity() {
+    let book = interest(&[note(90, 2_880)]);
+    let report = charge(&book).unwrap();
+    assert_eq!(report.interest_specific, 16_000);
+    assert_eq!(report.interest_general, 2_000);
+    assert_eq!((report.specifics[7], report.generals[7]), (16_000, 2_000));
+    let ladder = interest_ladder(&book, 7).unwrap();
+    assert_eq!((ladder.gross, ladder.charge), (20, 2_000));
+    for (maturity, weight) in [(180, 25), (181, 100), (720, 100), (721, 160)] {
+        let report = charge(&interest(&[note(90, maturity)])).unwrap();
+        assert_eq!(report.interest_specific, weight * 100, "{maturity}");
+    }
+}
+
+/// Catches a refusal that loses its row in words, or has another's reason.
+#[test]
+fn fifteen_is_told_with_its_row() {
+    let refusal = Refusal {
+        number: 15,
+        row: 1,
+        book: 0,
+    };
+    for (fixing, maturity) in [(361, 2_880), (90, 36_001), (90, 89)] {
+        let bad = interest(&[note(360, 360), note(fixing, maturity)]);
+        assert_eq!(check(&bad), Err(refusal));
+        assert_eq!(charge(&bad), Err(refusal));
+        assert_eq!(interest_ladder(&bad, 7), Err(refusal));
+        assert_eq!(commodity_ladder(&bad, 7), Err(refusal));
+        let of_b = Refusal { book: 1, ..refusal };
+        assert_eq!(join(&[0; 8], &bad, &mut []), Err(of_b));
+    }
+    assert!(refusal.names_row());
+    assert_eq!(
+        refusal.to_string(),
+        "refused 15 row 1: fixing over 360 days, or final maturity over 36,000 or before fixing"
+    );
+}
+
+/// Catches a number whose row is not told, or that has no words.
+#[test]
+fn every_number_that_is_given_has_words() {
+    let of = |number| Refusal {
+        number,
+        row: 3,
+        book: 0,
+    };
+    let unknown = of(99).reason();
+    for number in (1..=12).chain([15]) {
+        assert_ne!(of(number).reason(), unknown, "{number}");
+        let rows = (4..=9).contains(&number) || number == 15;
+        assert_eq!(of(number).to_string().contains(" row 3"), rows, "{number}");
+    }
+}
+
 #[test]
 fn every_entry_is_written() {
     let marked = u64::MAX;

@@ -1,7 +1,7 @@
-//! The book file: its rows, and who is told no. The file and the refusals are document
-//! 01's own; the Amendment has neither.
+//! The book file: its rows, and who is told no. The file and the refusals are documents 01's
+//! and 02's own; the Amendment has neither.
 
-use crate::kinds;
+use crate::kinds::{self, FLOATING};
 
 /// The four classes of rows, in file order.
 #[derive(Clone, Copy, Debug, PartialEq, Eq)]
@@ -26,7 +26,9 @@ pub struct Row {
     pub class: Class,
     pub group: usize,
     pub kind: u8,
+    /// Bytes 2-3: days to maturity; of a floating rate, to the next fixing.
     pub days: i128,
+    /// Bytes 4-5: the coupon; of a floating rate, the days to final maturity.
     pub coupon: i128,
     pub long: i128,
     pub short: i128,
@@ -42,9 +44,14 @@ impl Row {
     pub fn net(&self) -> i128 {
         self.long - self.short
     }
+
+    /// Whether this is a floating-rate note (document 02, P5).
+    pub fn floating(&self) -> bool {
+        self.class == Class::Interest && self.kind == FLOATING
+    }
 }
 
-/// Why a call was refused: document 01's number, the row and the book.
+/// Why a call was refused: the number of document 01 or 02, the row and the book.
 /// All three are 0 when the call was accepted.
 #[derive(Clone, Copy, Debug, Default, PartialEq, Eq)]
 pub struct Refusal {
@@ -98,7 +105,15 @@ fn decode(class: Class, bytes: &[u8]) -> Row {
     }
 }
 
-/// The number of the first fault of a row, 4 to 9, or 0.
+/// Whether a floating-rate note fixes within a year, and matures within a hundred years but not
+/// before it fixes (document 02, P5).
+fn fixes_in_time(note: &Row) -> bool {
+    let (fixing, maturity) = (note.days, note.coupon);
+    fixing <= 360 && maturity <= 36_000 && fixing <= maturity
+}
+
+/// The number of the first fault of a row, or 0. Of a floating-rate note, 15 is tried in the
+/// place of 6 and 7.
 fn row_fault(row: &Row) -> u64 {
     const LIMIT: i128 = 1_000_000_000;
     let (last_day, last_coupon) = match row.class {
@@ -110,8 +125,9 @@ fn row_fault(row: &Row) -> u64 {
     let faults = [
         (4, row.group > 31),
         (5, !kinds::of_class(row.class).contains(&row.kind)),
-        (6, row.days > last_day),
-        (7, row.coupon > last_coupon),
+        (15, row.floating() && !fixes_in_time(row)),
+        (6, !row.floating() && row.days > last_day),
+        (7, !row.floating() && row.coupon > last_coupon),
         (8, !one_side),
         (9, row.long > LIMIT || row.short > LIMIT),
     ];

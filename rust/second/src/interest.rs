@@ -3,7 +3,7 @@
 
 use crate::bands::{interest_band, interest_weight, zone_of_band};
 use crate::book::{read, Class, Refusal, Row};
-use crate::kinds::{GOVERNMENT, OTHER, QUALIFYING};
+use crate::kinds::{FLOATING, GOVERNMENT, OTHER, QUALIFYING};
 use crate::{figure, GROUPS};
 
 /// What the ladder call gives: gross, the match sums, the residual and the charge.
@@ -28,11 +28,20 @@ fn currency(rows: &[Row], group: usize) -> Vec<Row> {
     rows.iter().filter(wanted).copied().collect()
 }
 
+/// The band of an interest row: a fixed rate goes by its maturity and a floating one by its next
+/// fixing (A.1, 10), in the column of coupon 300 (document 02, P5).
+fn band_of(row: &Row) -> usize {
+    match row.floating() {
+        true => interest_band(row.days, 300),
+        false => interest_band(row.days, row.coupon),
+    }
+}
+
 /// The weighted longs and the weighted shorts of one band (A.1, 11).
 fn weighted(rows: &[Row], band: usize) -> (i128, i128) {
     let weight = interest_weight(band);
     rows.iter()
-        .filter(|row| interest_band(row.days, row.coupon) == band)
+        .filter(|row| band_of(row) == band)
         .fold((0, 0), |(long, short), row| {
             (long + row.long * weight, short + row.short * weight)
         })
@@ -139,20 +148,27 @@ pub fn of_each_currency(charge: impl Fn(&[Row]) -> i128, rows: &[Row]) -> [u64; 
     })
 }
 
+/// The specific weight of qualifying paper, in basis points, by the days to its final maturity:
+/// up to 6 months, up to 24, and beyond (A.1, 4 and 6).
+fn qualifying_weight(days: i128) -> i128 {
+    match days {
+        0..=180 => 25,
+        181..=720 => 100,
+        721..=36_000 => 160,
+        _ => unreachable!("no interest row has {days} days"),
+    }
+}
+
 /// The specific weight of an interest row, in basis points.
 fn specific_weight(row: &Row) -> i128 {
     match row.kind {
         // A.1, 4 and 5.
         GOVERNMENT => 0,
-        // A.1, 4 and 6: up to 6 months, up to 24, and beyond.
-        QUALIFYING => match row.days {
-            0..=180 => 25,
-            181..=720 => 100,
-            721..=36_000 => 160,
-            days => unreachable!("no interest row has {days} days"),
-        },
+        QUALIFYING => qualifying_weight(row.days),
         // A.1, 4 and 7.
         OTHER => 800,
+        // By the final maturity too (A.1, 4), which stands in the place of the coupon.
+        FLOATING => qualifying_weight(row.coupon),
         kind => unreachable!("no interest row has kind {kind}"),
     }
 }
@@ -161,7 +177,7 @@ fn specific_weight(row: &Row) -> i128 {
 /// A refused book uses none.
 pub fn zones_used(book: &[u8], group: usize) -> [bool; 3] {
     let rows = currency(&read(book).unwrap_or_default(), group);
-    let zone = |row: &Row| zone_of_band(interest_band(row.days, row.coupon));
+    let zone = |row: &Row| zone_of_band(band_of(row));
     [1, 2, 3].map(|wanted| rows.iter().any(|row| zone(row) == wanted))
 }
 
@@ -182,16 +198,46 @@ mod tests {
         }
     }
 
-    /// Catches a new kind that is charged like one of the three, in silence.
+    /// Catches a new kind that is charged like one of the four, in silence.
     #[test]
     fn no_other_kind_has_a_specific_weight() {
         assert_eq!(
-            [1, 2, 3].map(|kind| specific_weight(&of_kind(kind))),
-            [0, 25, 800]
+            [1, 2, 3, 4].map(|kind| specific_weight(&of_kind(kind))),
+            [0, 25, 800, 100]
         );
-        for kind in (0..=255).filter(|kind| !(1..=3).contains(kind)) {
+        for kind in (0..=255).filter(|kind| !(1..=4).contains(kind)) {
             let weight = std::panic::catch_unwind(|| specific_weight(&of_kind(kind)));
             assert!(weight.is_err(), "kind {kind}");
+        }
+    }
+
+    /// Catches a floating rate in the column below 300, by a final maturity that is taken for a
+    /// coupon. The columns agree up to 360 days, and no accepted note fixes later: only days that
+    /// none has can tell.
+    #[test]
+    fn a_floating_rate_takes_the_column_of_coupon_300() {
+        let note = |days, coupon| Row {
+            days,
+            coupon,
+            ..of_kind(FLOATING)
+        };
+        for maturity in [0, 1, 299, 300, 36_000] {
+            assert_eq!(band_of(&note(700, maturity)), 4, "{maturity}");
+            assert_eq!(band_of(&note(7_201, maturity)), 12, "{maturity}");
+        }
+        let bond = |coupon| Row {
+            kind: QUALIFYING,
+            ..note(700, coupon)
+        };
+        assert_eq!([300, 299].map(|coupon| band_of(&bond(coupon))), [4, 5]);
+    }
+
+    /// Catches a final maturity past the weights that is charged the last of them, in silence.
+    #[test]
+    fn no_days_past_the_last_have_a_specific_weight() {
+        assert_eq!(qualifying_weight(36_000), 160);
+        for days in [-1, 36_001] {
+            assert!(std::panic::catch_unwind(|| qualifying_weight(days)).is_err());
         }
     }
 }

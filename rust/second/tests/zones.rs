@@ -14,6 +14,15 @@ fn zones_begin_at_bands_4_and_7() {
     assert_eq!(zones_used(&interest(&[bond(0, 1)]), 6), [false; 3]);
 }
 
+/// Catches a zone that is found by the final maturity: a floating rate fixes within the year.
+#[test]
+fn a_floating_rate_lies_in_zone_1() {
+    for (fixing, maturity) in [(0, 0), (0, 36_000), (90, 2880), (360, 361), (360, 1440)] {
+        let book = interest(&[row(7, 4, fixing, maturity, 1)]);
+        assert_eq!(zones_used(&book, 7), [true, false, false]);
+    }
+}
+
 #[test]
 fn within_zones_the_percentages_differ() {
     for (days, other, per_cent) in [(60, 90 + 1, 40), (400, 800, 30), (1500, 8000, 30)] {

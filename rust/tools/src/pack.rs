@@ -18,10 +18,13 @@ Writes the rows of a CSV file as a book. Its first line must be exactly
 and each other line is one row; blank lines are passed over.
 
   class   interest, equity, fx or commodity
-  kind    interest: government, qualifying, other
+  kind    interest: government, qualifying, other, floating
           equity: ordinary, diversified, index
           fx, commodity: none
   others  whole numbers: coupon in basis points, long and short in thousands
+
+Of kind floating, a floating-rate note of qualifying paper, days run to the next fixing,
+0 to 360, and coupon holds the days to final maturity.
 
 Lines may mix classes: rows are sorted by class and keep their order within it.
 A book that the library refuses is not written, and the error names the line.
@@ -42,7 +45,7 @@ fn refused(parsed: &Parsed, refusal: Refusal) -> String {
             lines.sort_unstable();
             lines.get(MOST_ROWS).copied()
         }
-        4..=9 => parsed.lines.get(refusal.row as usize).copied(),
+        _ if refusal.names_row() => parsed.lines.get(refusal.row as usize).copied(),
         _ => None,
     };
     match line {
@@ -87,6 +90,25 @@ mod tests {
         let what = pack(&text, false).unwrap_err();
         assert_eq!(what, "line 4: refused 8: both amounts zero or both nonzero");
         assert_eq!(pack(&text, true).unwrap().len(), 40);
+    }
+
+    /// Catches a broken note whose line is not told, and a final maturity held to a coupon's
+    /// limit.
+    #[test]
+    fn a_floating_rate_note_is_packed_or_names_its_line() {
+        let note = |fixing: &str, maturity: &str| {
+            let bond = "interest,1,other,36000,10000,0,5,0";
+            let text = format!("{HEADER}\n{bond}\ninterest,1,floating,{fixing},{maturity},0,5,0\n");
+            pack(&text, false)
+        };
+        let book = note("90", "36000").unwrap();
+        assert_eq!(book[24..30], [1, 4, 90, 0, 0xa0, 0x8c]);
+        assert!(note("360", "360").is_ok());
+        let why = "fixing over 360 days, or final maturity over 36,000 or before fixing";
+        for (fixing, maturity) in [("361", "2880"), ("90", "36001"), ("90", "89")] {
+            let what = note(fixing, maturity).unwrap_err();
+            assert_eq!(what, format!("line 3: refused 15: {why}"));
+        }
     }
 
     #[test]

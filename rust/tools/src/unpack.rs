@@ -11,6 +11,8 @@ pub const COMMAND: Command = Command {
 
 Writes the rows of a book as a CSV file that pack takes back. Rows that the library
 refuses are written as they are; a kind that the class does not know is its number.
+A row of kind floating has the days to its next fixing in the column days, and those to
+final maturity in the column coupon.
 A file whose length does not agree with its counts has no rows and is an error.
 ",
     options: &[],

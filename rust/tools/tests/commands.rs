@@ -21,7 +21,7 @@ fn help_for_all_and_each() {
 }
 
 /// What the report of each sample has, in whole currency units unless it is shown.
-const SAMPLES: [(&str, &str); 8] = [
+const SAMPLES: [(&str, &str); 9] = [
     ("equity", "0 0 8,800 4,800 0 0 13,600"),
     ("swap", "213,280 4,580,112.500 0 0 0 0 4,793,392.500"),
     ("keyed", "0 735 0 0 0 0 735"),
@@ -33,6 +33,7 @@ const SAMPLES: [(&str, &str); 8] = [
         "480,000 334,500 100,000 88,000 85,600 21,600 1,109,700",
     ),
     ("treasury", "20,000 4,005 8,000 8,000 4,000 0 44,005"),
+    ("floating", "38,000 38,140 0 0 0 0 76,140"),
 ];
 
 #[test]
@@ -57,6 +58,7 @@ fn packed_samples_unpack_to_the_same_book() {
         "commodity",
         "fx",
         "mixed",
+        "floating",
     ] {
         let book = packed(name, "unpack");
         let (text, again) = (
@@ -68,8 +70,10 @@ fn packed_samples_unpack_to_the_same_book() {
         assert_eq!(fs::read(&book).unwrap(), fs::read(&again).unwrap());
     }
     // The sorted samples come back letter by letter.
-    let text = prints(&["unpack", &packed("swap", "letters"), "-"]);
-    assert_eq!(text, fs::read_to_string(sample("swap")).unwrap());
+    for name in ["swap", "floating"] {
+        let text = prints(&["unpack", &packed(name, "letters"), "-"]);
+        assert_eq!(text, fs::read_to_string(sample(name)).unwrap());
+    }
 }
 
 /// The option may stand before the book or after it, and changes none of the seven lines.
@@ -180,6 +184,41 @@ fn errors_name_the_line_or_the_row() {
     );
     fs::write(&text, format!("{header}\nbond,1,none,0,0,0,5,0\n")).unwrap();
     assert!(fails(1, &["pack", &text, &book]).contains("line 2: class is 'bond'"));
+}
+
+/// Catches a broken floating-rate note that is told as a bond, or without its line or row.
+#[test]
+fn a_broken_note_names_its_two_maturities() {
+    let (text, book) = (temporary("note.csv"), temporary("note.book"));
+    let good = fs::read_to_string(sample("floating")).unwrap();
+    fs::write(&text, good.replace(",360,720,", ",361,720,")).unwrap();
+    let why = "fixing over 360 days, or final maturity over 36,000 or before fixing";
+    let error = fails(1, &["pack", &text, &book]);
+    let line = format!("note.csv: line 4: refused 15: {why}");
+    assert!(error.contains(&line), "{error}");
+    prints(&["pack", &text, &book, "--unchecked"]);
+    let told = format!(
+        "note.book: refused 15 row 2: {why}\ninterest row: group 7, kind floating, \
+         days to fixing 361, final maturity 720, issue 0, long 500, short 0; "
+    );
+    for words in [
+        &["report", &book][..],
+        &["report", &book, "--currencies"],
+        &["ladder", &book, "--currency", "7"],
+        &["ladder", &book, "--commodity", "7"],
+    ] {
+        let error = fails(1, words);
+        assert!(error.contains(&told), "{error}");
+    }
+    let (keyed, out) = (packed("keyed", "note"), temporary("note-joined.book"));
+    let error = fails(1, &["join", &keyed, &book, &out]);
+    assert!(
+        error.contains("note.book: refused 15 row 2 of the second book"),
+        "{error}"
+    );
+    // A refused row is unpacked as it is.
+    let again = prints(&["unpack", &book, "-"]);
+    assert_eq!(again, fs::read_to_string(&text).unwrap());
 }
 
 /// Catches a CSV file in the place of a book that is refused for its "row counts".

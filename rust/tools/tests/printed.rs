@@ -91,7 +91,7 @@ fn every_print_is_stored_and_nothing_else() {
         .map(|(name, _, print, _)| stored_name(name, *print))
         .collect();
     assert_eq!(names(&format!("{}/expected", samples()), ".txt"), wanted);
-    assert_eq!(wanted.len(), 36);
+    assert_eq!(wanted.len(), 38);
 }
 
 /// Catches any change of what is printed: a rate halved, a per cent, a weight, a figure.
@@ -127,7 +127,7 @@ fn every_line_of_the_stored_texts_is_calculated_again() {
 }
 
 /// The totals and charges, worked by hand in document 01 and in samples/README.md.
-const BY_HAND: [(&str, &str); 27] = [
+const BY_HAND: [(&str, &str); 29] = [
     ("empty.report", "0.000"),
     ("swap.report", "4,793,392.500"),
     ("swap.currency-7", "4,580,112.500"),
@@ -155,6 +155,8 @@ const BY_HAND: [(&str, &str); 27] = [
     ("treasury.currency-31", "3,270.000"),
     ("treasury.report", "44,005.000"),
     ("treasury.currencies", "24,005.000"),
+    ("floating.currency-7", "38,140.000"),
+    ("floating.report", "76,140.000"),
 ];
 
 /// Catches a stored charge that both calculations would have wrong.

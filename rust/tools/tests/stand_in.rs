@@ -1,5 +1,6 @@
 //! The command over a library that has calls taken out, miscounts rows, has wrong lists of the
-//! currencies or ladders that do not add up, which it must notice. It is built a second time,
+//! currencies, ladders that do not add up or misread floating-rate notes, which it must notice.
+//! It is built a second time,
 //! over the proved archive with tests/stand_in/stand_in.c before its calls.
 
 mod common;
@@ -154,6 +155,23 @@ fn compare_fails_with_each_fault_of_the_lists() {
         let told = told(fault);
         assert!(told.starts_with(&format!("charge{BY}{first}")), "{told}");
     }
+}
+
+/// Catches a comparison whose books have no floating-rate notes, or notes whose two maturities
+/// say the same, or none that is broken.
+#[test]
+fn compare_fails_with_each_wrong_reading_of_notes() {
+    for (fault, first) in [
+        ("specific_at_fixing", "entry 3 is "),
+        ("ladder_at_final", "entry 4 is "),
+    ] {
+        let told = told(fault);
+        assert!(told.starts_with(&format!("charge{BY}{first}")), "{told}");
+    }
+    let words = ["compare", "--seed", "1", "--count", "300"];
+    let error = fails("six_for_fifteen", &words);
+    assert!(error.contains(&format!("\ncheck{BY}entry 0 is 6 and 15\n")));
+    assert!(error.contains("\ninterest,0,floating,"), "{error}");
 }
 
 /// Catches a report that is printed without a look at the rows taken.

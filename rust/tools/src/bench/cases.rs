@@ -120,6 +120,23 @@ mod tests {
         }
     }
 
+    /// Catches books without floating-rate notes, or with few: a branch on the kind of a row
+    /// would not show.
+    #[test]
+    fn interest_rows_are_notes_and_bonds() {
+        for case in cases().iter().filter(|case| case.rows > 0) {
+            let books = case.books.iter().chain(case.pairs.iter().flatten());
+            let rows: Vec<u8> = books
+                .flat_map(|book| Book::decode(book).unwrap().classes[0].clone())
+                .map(|row| row.kind)
+                .collect();
+            for kind in 1..=4 {
+                let of_kind = rows.iter().filter(|own| **own == kind).count();
+                assert!(5 * of_kind >= rows.len(), "{}: kind {kind}", case.name);
+            }
+        }
+    }
+
     #[test]
     fn refused_books_are_refused_at_the_last_row() {
         let case = refused();

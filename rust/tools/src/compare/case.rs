@@ -1,8 +1,9 @@
 //! One random case: two books, a group and the length of an output.
 
-use books::damage::damage;
-use books::generate::{book, interest_book, ladder_book, Shape};
-use books::{csv, Book, Random, Row};
+use books::damage::{damage, damage_note};
+use books::generate::{book, interest_book, interest_rows, ladder_book, Shape};
+use books::names::FLOATING;
+use books::{csv, Book, Random, Row, ROW_BYTES};
 use std::fmt;
 
 /// What the five calls are given.
@@ -20,7 +21,7 @@ pub struct Case {
 
 /// How many rows two books have: mostly few, rarely as many as may be joined.
 fn sizes(random: &mut Random) -> [usize; 2] {
-    if random.once_in(36) {
+    if random.once_in(30) {
         let full = [
             [4000, 0],
             [4000, 1],
@@ -74,15 +75,18 @@ fn any_books(random: &mut Random) -> [Vec<u8>; 2] {
 /// and 2 and 3. Joined, in equal parts, they cost more.
 const E4: [[(u16, u32, u32); 2]; 2] = [[(270, 75, 0), (900, 0, 30)], [(900, 30, 0), (6000, 0, 10)]];
 
-/// Puts E4's rows, up to three times as large, into two books.
+/// Puts E4's rows, up to three times as large, into two books. That of zone 1 is every second
+/// time a floating-rate note, 800 days to final maturity.
 fn add_e4(random: &mut Random, books: &mut [Book; 2]) {
     let group = random.below(32) as u8;
-    let bond = Row::default().with_group(group).with_kind(1);
+    let row = Row::default().with_group(group).with_coupon(800);
     for (book, rows) in books.iter_mut().zip(E4) {
         let times = 1 + random.below(3) as u32;
+        let near = random.pick(&[1, FLOATING]);
         let rows = rows.map(|(days, long, short)| {
-            let bond = bond.with_days(days).with_coupon(800);
-            bond.with_sides(times * long, times * short)
+            let kind = if days <= 360 { near } else { 1 };
+            let row = row.with_kind(kind).with_days(days);
+            row.with_sides(times * long, times * short)
         });
         book.classes[0].extend(rows);
     }
@@ -102,6 +106,22 @@ fn books_of_currencies(random: &mut Random) -> [Vec<u8>; 2] {
     books.map(|book| book.encode().expect("few rows"))
 }
 
+/// Two books of interest rows alone. In every second one a row, the first, the last or one
+/// between, becomes a floating-rate note at its limits or past them.
+fn books_of_notes(random: &mut Random) -> [Vec<u8>; 2] {
+    let mut shape = Shape::of_currencies(random, 0);
+    [0; 2].map(|_| {
+        shape.rows = 1 + random.below(8) as usize;
+        let mut bytes = interest_rows(random, &shape).encode().expect("few rows");
+        if random.once_in(2) {
+            let last = shape.rows - 1;
+            let at = 8 + ROW_BYTES * random.pick(&[0, last / 2, last]);
+            damage_note(random, &mut bytes[at..at + ROW_BYTES]);
+        }
+        bytes
+    })
+}
+
 /// Two accepted books of interest and commodity rows, all in one group, so that many ladders
 /// use all three zones or carry amounts.
 fn books_of_one_group(random: &mut Random) -> [Vec<u8>; 2] {
@@ -116,9 +136,10 @@ impl Case {
     /// The case with this number of a seed.
     pub fn new(seed: u64, number: u64) -> Case {
         let mut random = Random::of_case(seed, number);
-        let [a, b] = match random.below(8) {
-            0 => books_of_currencies(&mut random),
-            1 => books_of_one_group(&mut random),
+        let [a, b] = match random.below(16) {
+            0 | 1 => books_of_currencies(&mut random),
+            2 | 3 => books_of_notes(&mut random),
+            4 | 5 => books_of_one_group(&mut random),
             _ => any_books(&mut random),
         };
         Case {

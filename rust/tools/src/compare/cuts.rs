@@ -69,17 +69,18 @@ fn weight(row: &Row) -> u64 {
     small.iter().sum::<u64>() + u64::from(row.group) + kind + amounts
 }
 
-/// The file with all its rows in group 0, if it has rows.
-pub fn in_group_0(bytes: &[u8]) -> Option<Vec<u8>> {
-    one_group(&Book::decode(bytes)?).encode()
-}
-
 /// The book with all its rows in group 0.
 fn one_group(book: &Book) -> Book {
     let mut book = book.clone();
     let rows = book.classes.iter_mut().flatten();
     rows.for_each(|row| row.group = 0);
     book
+}
+
+/// A file with all its rows, if it has any, in group 0.
+pub fn in_one_group(bytes: &[u8]) -> Vec<u8> {
+    let plain = Book::decode(bytes).and_then(|book| one_group(&book).encode());
+    plain.unwrap_or_else(|| bytes.to_vec())
 }
 
 /// The book with all groups one, or one row made plainer.

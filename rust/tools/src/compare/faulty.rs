@@ -1,5 +1,6 @@
 //! The second calculation with a fault put in on purpose.
 
+use super::misread::{misread, mistell};
 use super::premises::{at_most_two, zones};
 use crate::calls::{Calls, Second};
 
@@ -52,6 +53,30 @@ pub enum Fault {
     OrderInList,
     /// The specific charges of the currencies look at which side is long.
     SideInList,
+    /// The specific weight of a floating-rate note goes by its fixing.
+    SpecificAtFixing,
+    /// The band of a floating-rate note goes by its final maturity.
+    LadderAtFinal,
+    /// A final maturity before the fixing passes.
+    FinalBeforeFixing,
+    /// A final maturity that is the fixing is refused.
+    FinalAtFixingRefused,
+    /// A final maturity is held to the limit of coupons.
+    CouponLimit,
+    /// A fixing is held to the limit of other days.
+    DaysLimit,
+    /// The amounts of a floating-rate note are looked at before its fixing.
+    AmountsBeforeFixing,
+    /// The group of a floating-rate note is looked at after its fixing.
+    FixingBeforeGroup,
+    /// Kind 4 passes in equity.
+    NoteInEquity,
+    /// A floating-rate note is refused with 6.
+    SixForFifteen,
+    /// A floating-rate note is refused with 7.
+    SevenForFifteen,
+    /// A floating-rate note is refused without its row.
+    FifteenWithoutRow,
 }
 
 /// Makes the first currency with at most two zones dearer, the more the longer the book is,
@@ -77,12 +102,14 @@ impl Calls for Faulty {
     }
 
     fn check(&self, book: &[u8], out: &mut [u64; 3]) {
-        Second.check(book, out);
+        Second.check(&misread(self.0, book), out);
+        mistell(self.0, out);
     }
 
     fn charge(&self, book: &[u8], out: &mut [u64; 75]) {
         let last = out[74];
-        Second.charge(book, out);
+        Second.charge(&misread(self.0, book), out);
+        mistell(self.0, out);
         if out[0] != 0 {
             match self.0 {
                 Fault::TakenKept => out[10] = out[1],

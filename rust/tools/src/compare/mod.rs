@@ -5,8 +5,11 @@ mod check;
 mod cuts;
 #[cfg(test)]
 mod faulty;
+mod floating;
 mod ladders;
 mod laws;
+#[cfg(test)]
+mod misread;
 mod premises;
 mod run;
 mod shrink;
@@ -42,8 +45,8 @@ stops with exit status 1. It also fails when the pairs have shown too little: ev
 refusal, accepted books with rows, books refused after their first row, interest ladders
 with all three zones used, commodity ladders with amounts carried, joins made, joins under
 the zone premise, currencies of both books under their own premise, these beside a
-currency with three zones, and currencies that cost more joined must come up in
-proportion to N.
+currency with three zones, currencies that cost more joined, and floating-rate notes,
+accepted, joined, and refused in each way and place, must come up in proportion to N.
 
   --seed S    the seed, 1 if not given
   --count N   how many pairs, 20000 if not given

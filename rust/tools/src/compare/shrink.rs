@@ -1,7 +1,7 @@
 //! The smallest case that still fails, as far as simple cuts lead.
 
 use super::case::Case;
-use super::cuts::{cuts, in_group_0};
+use super::cuts::{cuts, in_one_group};
 
 /// How many cuts are tried at most: full books that cannot be cut have very many.
 const MOST_TRIES: usize = 10_000;
@@ -25,12 +25,13 @@ fn smaller(case: &Case) -> impl Iterator<Item = Case> + '_ {
     };
     let of_b = cuts(&case.b).map(move |b| with(case.a.clone(), b));
     let of_a = cuts(&case.a).map(move |a| with(a, case.b.clone()));
-    let regrouped = in_group_0(&case.a).map(|a| Case {
-        a,
+    // A ladder's own rows leave their group with it.
+    let one_group = Case {
+        a: in_one_group(&case.a),
+        b: in_one_group(&case.b),
         ..plain(0, case.room)
-    });
-    let numbers = [plain(0, case.room), plain(case.group, 0)].into_iter();
-    let numbers = numbers.chain(regrouped);
+    };
+    let numbers = [plain(0, case.room), plain(case.group, 0), one_group].into_iter();
     let numbers = numbers.filter(move |plain| plain != case);
     numbers.chain(of_b).chain(of_a)
 }

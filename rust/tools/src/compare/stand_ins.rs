@@ -137,10 +137,12 @@ fn a_run_that_has_seen_too_little_fails() {
     };
     let message = failure(&empty);
     assert!(message.starts_with("20000 pairs have shown too little\n"));
-    assert!(message.contains("\nbooks refused 9: 0 where at least 150 are wanted\n"));
+    assert!(message.contains("\nbooks refused 9: 0 where at least 110 are wanted\n"));
     assert!(message.contains("\nbooks accepted with rows: 0 where"));
     assert!(message.contains("\nbooks refused after their first row: 0 where"));
     assert!(message.contains("\ncurrencies joined under their zone premise: 0 where"));
+    assert!(message.contains("\nbooks accepted with floating rates: 0 where"));
+    assert!(message.contains("\nbooks refused 15: 0 where at least 355 are wanted\n"));
     assert!(!message.contains("books accepted: "), "{message}");
     empty.count = 50;
     assert!(empty.outcome().is_ok());
@@ -157,6 +159,22 @@ fn without_three(seed: u64, number: u64) -> Case {
         two(&case.a) && two(&joined)
     });
     wanted.expect("most cases use two")
+}
+
+/// A case of a seed with its floating-rate notes made qualifying bonds.
+fn without_notes(seed: u64, number: u64) -> Case {
+    let bonds = |bytes: Vec<u8>| {
+        let mut book = Book::decode(&bytes)?;
+        let notes = book.classes[0].iter_mut().filter(|row| row.kind == 4);
+        notes.for_each(|row| row.kind = 2);
+        book.encode()
+    };
+    let case = Case::new(seed, number);
+    Case {
+        a: bonds(case.a.clone()).unwrap_or(case.a),
+        b: bonds(case.b.clone()).unwrap_or(case.b),
+        ..case
+    }
 }
 
 /// A case of a seed, with the commodity rows of the first book in the last band.
@@ -188,9 +206,9 @@ fn lacking(cases: fn(u64, u64) -> Case) -> Vec<String> {
 #[test]
 fn a_run_without_three_zones_fails() {
     let expected = [
-        "interest ladders with three zones: 0 where at least 60 are wanted",
-        "currencies joined beside one with three zones: 0 where at least 110 are wanted",
-        "currencies dearer when joined: 0 where at least 50 are wanted",
+        "interest ladders with three zones: 0 where at least 70 are wanted",
+        "currencies joined beside one with three zones: 0 where at least 125 are wanted",
+        "currencies dearer when joined: 0 where at least 55 are wanted",
     ];
     assert_eq!(lacking(without_three), expected);
 }
@@ -198,6 +216,21 @@ fn a_run_without_three_zones_fails() {
 /// Catches a run whose commodity ladders add up because nothing is carried.
 #[test]
 fn a_run_without_amounts_carried_fails() {
-    let expected = ["commodity ladders with amounts carried: 0 where at least 160 are wanted"];
+    let expected = ["commodity ladders with amounts carried: 0 where at least 152 are wanted"];
     assert_eq!(lacking(without_carried), expected);
+}
+
+/// Catches a run that has seen no floating-rate note in interest, and so nothing of their rules.
+#[test]
+fn a_run_without_notes_fails() {
+    let lacking = lacking(without_notes);
+    let about_notes =
+        |line: &&String| line.contains("floating rates") || line.contains("refused 15");
+    assert_eq!(
+        lacking.iter().filter(about_notes).count(),
+        10,
+        "{lacking:?}"
+    );
+    assert!(lacking.iter().all(|line| line.contains(": 0 where")));
+    assert_eq!(lacking.len(), 10, "{lacking:?}");
 }

@@ -1,6 +1,7 @@
 //! What a run has seen, so that it can be told from one that compared nothing.
 
 use super::case::Case;
+use super::floating::Floating;
 use super::premises::Premises;
 use std::fmt;
 
@@ -12,37 +13,47 @@ pub struct Tally {
     pub with_rows: u64,
     /// First books that are refused at a row after their first: by then rows were taken.
     pub after_first: u64,
-    /// First books by the number of their refusal, 1 to 9.
-    pub refused: [u64; 10],
+    /// First books by the number of their refusal, 1 to 9 or 15.
+    pub refused: [u64; 16],
     pub ladder_refused: u64,
     /// Interest ladders of currencies that use all three zones.
     pub three_zones: u64,
     /// Commodity ladders with amounts carried.
     pub carried: u64,
     /// Joins by the number of their refusal; 0 counts those that were made.
-    pub joins: [u64; 13],
+    pub joins: [u64; 16],
     pub of_second: u64,
     pub premises: Premises,
+    pub floating: Floating,
 }
 
 /// What 20,000 cases must show at least: about a third of what they do show.
 const LEAST: Tally = Tally {
     accepted: 3_900,
-    with_rows: 3_400,
-    after_first: 1_100,
-    refused: [0, 75, 150, 740, 340, 270, 240, 300, 360, 150],
-    ladder_refused: 770,
-    three_zones: 300,
-    carried: 800,
-    joins: [
-        1_600, 115, 240, 1_150, 520, 400, 380, 500, 560, 260, 0, 20, 800,
+    with_rows: 3_900,
+    after_first: 960,
+    refused: [
+        0, 50, 120, 530, 255, 340, 140, 180, 235, 110, 0, 0, 0, 0, 0, 355,
     ],
-    of_second: 1_450,
+    ladder_refused: 740,
+    three_zones: 350,
+    carried: 760,
+    joins: [
+        2_050, 80, 175, 790, 395, 520, 210, 275, 360, 165, 0, 20, 1_050, 0, 0, 555,
+    ],
+    of_second: 1_210,
     premises: Premises {
-        joins: 1_250,
-        currencies: 1_150,
-        beside_three: 550,
-        dearer: 250,
+        joins: 1_230,
+        currencies: 1_470,
+        beside_three: 625,
+        dearer: 275,
+    },
+    floating: Floating {
+        accepted: 1_850,
+        joined: 650,
+        places: [170, 100, 85],
+        ways: [75, 80, 75],
+        elsewhere: 190,
     },
 };
 
@@ -62,6 +73,7 @@ impl Tally {
         }
         self.with_rows += u64::from(refusal.accepted() && case.a.len() > 8);
         self.after_first += u64::from(refusal.row > 0);
+        self.floating.count(&case.a, &refusal);
         self.ladder_refused += u64::from(case.group > 31);
         let zones = second::zones_used(&case.a, case.group);
         self.three_zones += u64::from(zones == [true; 3]);
@@ -74,6 +86,7 @@ impl Tally {
         out.truncate(joined.length as usize);
         if joined.refusal.accepted() {
             self.premises.count([&case.a, &case.b, &out]);
+            self.floating.count_join([&case.a, &case.b]);
         }
     }
 
@@ -101,6 +114,7 @@ impl Tally {
             ("joins refused for the second book".into(), self.of_second),
         ];
         counts.extend(self.premises.named());
+        counts.extend(self.floating.named());
         counts.extend(numbered("books refused", &self.refused));
         counts.extend(numbered("joins refused", &self.joins));
         counts
@@ -127,8 +141,8 @@ fn numbered(counts: &[u64], numbers: impl Iterator<Item = usize>) -> String {
 
 impl fmt::Display for Tally {
     fn fmt(&self, out: &mut fmt::Formatter) -> fmt::Result {
-        let refused = numbered(&self.refused, 1..=9);
-        let not_joined = numbered(&self.joins, (1..=9).chain(11..=12));
+        let refused = numbered(&self.refused, (1..=9).chain([15]));
+        let not_joined = numbered(&self.joins, (1..=9).chain([11, 12, 15]));
         writeln!(out, "books accepted {}, refused {refused}", self.accepted)?;
         writeln!(
             out,
@@ -142,6 +156,7 @@ impl fmt::Display for Tally {
             self.three_zones, self.carried
         )?;
         writeln!(out, "joins made {}, {}", self.joins[0], self.premises)?;
+        writeln!(out, "{}", self.floating)?;
         writeln!(
             out,
             "joins refused {not_joined}, for the second book {}",
@@ -206,11 +221,27 @@ mod tests {
             |tally| &mut tally.premises.dearer,
             "currencies dearer when joined",
         );
-        for number in 1..=9 {
+        alone(
+            |tally| &mut tally.floating.accepted,
+            "books accepted with floating rates",
+        );
+        alone(
+            |tally| &mut tally.floating.joined,
+            "joins of books with floating rates",
+        );
+        alone(
+            |tally| &mut tally.floating.elsewhere,
+            "books refused 5 for kind 4 of another class",
+        );
+        for at in 0..3 {
+            assert_eq!(one_short(|tally| &mut tally.floating.places[at]).len(), 1);
+            assert_eq!(one_short(|tally| &mut tally.floating.ways[at]).len(), 1);
+        }
+        for number in (1..=9).chain([15]) {
             let lacking = one_short(|tally| &mut tally.refused[number]);
             assert!(lacking[0].starts_with(&format!("books refused {number}: ")));
         }
-        for number in (1..=9).chain(11..=12) {
+        for number in (1..=9).chain([11, 12, 15]) {
             let lacking = one_short(|tally| &mut tally.joins[number]);
             assert!(lacking[0].starts_with(&format!("joins refused {number}: ")));
         }
@@ -220,12 +251,12 @@ mod tests {
     #[test]
     fn minimums_follow_the_count() {
         let nothing = Tally::default();
-        assert_eq!(nothing.lacking(20_000).len(), 12 + 9 + 11);
+        assert_eq!(nothing.lacking(20_000).len(), 12 + 9 + 10 + 12);
         assert!(LEAST.lacking(20_100).len() > 10);
         let half = nothing.lacking(10_000);
         assert!(half.contains(&"joins refused 11: 0 where at least 10 are wanted".to_string()));
         // Few cases may miss the rarest, and very few may miss anything.
-        assert_eq!(nothing.lacking(9_999).len(), 12 + 9 + 10);
+        assert_eq!(nothing.lacking(9_999).len(), 12 + 9 + 10 + 11);
         assert_eq!(nothing.lacking(51), [""; 0]);
     }
 }

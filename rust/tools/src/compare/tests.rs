@@ -60,8 +60,53 @@ fn every_fault_is_found() {
         Fault::DearGeneral,
         Fault::OrderInList,
         Fault::SideInList,
+        Fault::SpecificAtFixing,
+        Fault::LadderAtFinal,
+        Fault::FinalBeforeFixing,
+        Fault::FinalAtFixingRefused,
+        Fault::CouponLimit,
+        Fault::DaysLimit,
+        Fault::AmountsBeforeFixing,
+        Fault::FixingBeforeGroup,
+        Fault::NoteInEquity,
+        Fault::SixForFifteen,
+        Fault::SevenForFifteen,
+        Fault::FifteenWithoutRow,
     ];
     assert!(faults.iter().all(|fault| found(*fault).is_some()));
+}
+
+/// Catches notes that come up so seldom that a run of 600 cases misses a wrong reading of them.
+#[test]
+fn wrong_readings_of_floating_rate_notes_are_shown_by_one_note() {
+    let check = "check by a faulty calculation and by the second calculation: entry 0 is";
+    for (fault, words) in [
+        (Fault::SpecificAtFixing, format!("{CHARGE}: entry 3 is ")),
+        (Fault::LadderAtFinal, format!("{CHARGE}: entry 4 is ")),
+        // A row without amounts is plainer: what passes for 15 is then refused with 8.
+        (Fault::FinalBeforeFixing, format!("{check} 8 and 15\n")),
+        (
+            Fault::FinalAtFixingRefused,
+            "the joined book is refused with 15\n".into(),
+        ),
+        (Fault::CouponLimit, format!("{check} 15 and 8\n")),
+        (Fault::DaysLimit, format!("{check} 8 and 15\n")),
+        (Fault::AmountsBeforeFixing, format!("{check} 8 and 15\n")),
+        (Fault::FixingBeforeGroup, format!("{check} 15 and 4\n")),
+        (Fault::SixForFifteen, format!("{check} 6 and 15\n")),
+        (Fault::SevenForFifteen, format!("{check} 7 and 15\n")),
+    ] {
+        let (number, case) = found(fault).unwrap();
+        assert!(number < 600, "{words}: {number}");
+        let text = run(&Faulty(fault)).explain(&case, number);
+        assert!(text.contains(&words), "{words}: {text}");
+        assert!(text.contains(", 24 bytes: "), "{words}: {text}");
+        assert!(text.contains(",floating,"), "{words}: {text}");
+    }
+    let (number, case) = found(Fault::NoteInEquity).unwrap();
+    let text = run(&Faulty(Fault::NoteInEquity)).explain(&case, number);
+    assert!(text.contains(&format!("{check} 8 and 5\n")), "{text}");
+    assert!(text.contains("\nequity,0,4,0,0,0,0,0\n"), "{text}");
 }
 
 #[test]

@@ -1,6 +1,8 @@
 //! The bands of both ladders, as a reader sees them.
 
 use crate::text::whole;
+use books::names::FLOATING;
+use books::Row;
 
 /// The weights of the interest bands, in basis points.
 pub const WEIGHTS: [i128; 15] = [
@@ -23,10 +25,10 @@ pub const COMMODITY: [u16; 6] = [30, 90, 180, 360, 720, 1080];
 /// The bands of zones 1, 2 and 3.
 pub const ZONES: [std::ops::Range<usize>; 3] = [0..4, 4..7, 7..15];
 
-/// The last days of the interest bands for a coupon.
-pub fn column(coupon: u16) -> &'static [u16] {
-    match coupon {
-        300.. => &ORDINARY,
+/// The last days of the interest bands for a row: a floating-rate note takes the first column.
+pub fn column(row: &Row) -> &'static [u16] {
+    match (row.kind, row.coupon) {
+        (FLOATING, _) | (_, 300..) => &ORDINARY,
         _ => &LOW_COUPON,
     }
 }
@@ -58,7 +60,7 @@ mod tests {
         for days in 0..=36_000 {
             for coupon in [0, 299, 300, 10_000] {
                 assert_eq!(
-                    band(column(coupon), days),
+                    band(column(&Row::default().with_coupon(coupon)), days),
                     second::interest_band(days.into(), coupon.into())
                 );
             }

@@ -31,6 +31,9 @@ which it adds up:
               residual is the difference of these; what is carried, step by step; the
               charge is 1.5% of gross, 13.5% of the residual and 0.6% of what is carried
 
+Rows of kind floating stand in the band of their next fixing, as with a coupon of 3% or
+more, whatever their final maturity.
+
 Amounts are in thousands, weighted positions and charges in currency units. Matches,
 residual, what is carried and charge are the proved library's. The rows are added up here,
 by bands for the table and one by one for the last lines, and the command fails if they do

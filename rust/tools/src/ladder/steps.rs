@@ -20,7 +20,7 @@ pub struct Step {
 pub fn amounts(rows: &[Row], group: u64) -> [Sides; 15] {
     let mut bands = [(0, 0); 15];
     for row in rows.iter().filter(|row| u64::from(row.group) == group) {
-        let sides = &mut bands[band(column(row.coupon), row.days)];
+        let sides = &mut bands[band(column(row), row.days)];
         sides.0 += i128::from(row.long);
         sides.1 += i128::from(row.short);
     }
@@ -113,6 +113,7 @@ pub fn cross_check(
 #[cfg(test)]
 mod tests {
     use super::*;
+    use books::names::FLOATING;
 
     /// Weighted bands in which every step but that between zones 2 and 3 has a match.
     const BANDS: [Sides; 15] = {
@@ -139,6 +140,19 @@ mod tests {
         residual: 5_230,
         charge: 694_650,
     };
+
+    /// Catches a floating-rate note in the band of its final maturity, or in the column below
+    /// 300 by it. The columns agree up to 360 days: only days that no note has can tell.
+    #[test]
+    fn a_floating_rate_note_stands_where_it_fixes_in_the_first_column() {
+        let row = Row::default().with_kind(FLOATING).with_sides(3, 0);
+        for (days, band) in [(30, 0), (31, 1), (90, 1), (180, 2), (360, 3), (700, 4)] {
+            for maturity in [0, 299, 300, 36_000] {
+                let note = row.with_days(days).with_coupon(maturity);
+                assert_eq!(amounts(&[note], 0)[band], (3, 0), "{days} {maturity}");
+            }
+        }
+    }
 
     /// Catches a cross-check that does not look at a figure of the drawn ladder: a side of
     /// a band, a match, a per cent, or the rest.

@@ -1,7 +1,7 @@
 //! A refusal in words.
 
 use crate::text::whole;
-use books::names::{kind_name, kinds, CLASS_NAMES};
+use books::names::{floating, kind_name, kinds, CLASS_NAMES};
 use books::{Book, Row};
 use market_risk::Refusal;
 
@@ -17,14 +17,25 @@ fn allowed(number: u64, class: usize) -> String {
         7 if class == 0 => "coupon may be 0 to 10,000".into(),
         7 => "coupon must be 0".into(),
         8 => "exactly one of long and short must be nonzero".into(),
-        _ => "an amount may be at most 1,000,000,000".into(),
+        9 => "an amount may be at most 1,000,000,000".into(),
+        15 => "days to fixing may be 0 to 360, and final maturity from there to 36,000".into(),
+        _ => unreachable!("no row is refused with {number}"),
+    }
+}
+
+/// What the fields `days` and `coupon` of a row are.
+fn terms(class: usize, kind: u8) -> [&'static str; 2] {
+    match floating(class, kind) {
+        true => ["days to fixing", "final maturity"],
+        false => ["days", "coupon"],
     }
 }
 
 /// The fields of a row in words.
 fn fields(class: usize, row: &Row) -> String {
+    let [days, coupon] = terms(class, row.kind);
     format!(
-        "{} row: group {}, kind {}, days {}, coupon {}, issue {}, long {}, short {}",
+        "{} row: group {}, kind {}, {days} {}, {coupon} {}, issue {}, long {}, short {}",
         CLASS_NAMES[class],
         row.group,
         kind_name(class, row.kind),
@@ -53,7 +64,7 @@ pub fn explain(bytes: &[u8], refusal: &Refusal) -> String {
             "the file has {length} bytes and counts {} rows",
             counts(bytes)
         ),
-        (number @ 4..=9, Some((class, row))) => {
+        (number @ (4..=9 | 15), Some((class, row))) => {
             format!("{}; {}", fields(class, &row), allowed(number, class))
         }
         _ => return refusal.to_string(),
@@ -84,6 +95,46 @@ mod tests {
             text,
             format!("refused 6 row 0: days out of their range\n{fields}; days may be 0 to 36,000")
         );
+    }
+
+    /// A book of one floating-rate note, changed.
+    fn note(change: impl Fn(Row) -> Row) -> Vec<u8> {
+        let row = Row::default().with_group(7).with_kind(4);
+        let note = row.with_days(90).with_coupon(2_880).with_sides(1_500, 0);
+        let mut book = Book::default();
+        book.classes[0].push(change(note));
+        book.encode().unwrap()
+    }
+
+    /// Catches a note whose final maturity is shown as a coupon, and a number without words.
+    #[test]
+    fn a_floating_rate_note_is_explained_with_its_two_maturities() {
+        let row = |fixing: &str, maturity: &str| {
+            format!(
+                "interest row: group 7, kind floating, days to fixing {fixing}, \
+                 final maturity {maturity}, issue 0, long 1,500, short 0; "
+            )
+        };
+        let why = "fixing over 360 days, or final maturity over 36,000 or before fixing";
+        let may = "days to fixing may be 0 to 360, and final maturity from there to 36,000";
+        for (fixing, maturity, shown) in [
+            (361, 2_880, row("361", "2,880")),
+            (90, 36_001, row("90", "36,001")),
+            (90, 89, row("90", "89")),
+        ] {
+            let text = explained(&note(|row| row.with_days(fixing).with_coupon(maturity)));
+            assert_eq!(text, format!("refused 15 row 0: {why}\n{shown}{may}"));
+        }
+        // Another fault of a note shows the same fields, and kind 4 is none elsewhere.
+        let text = explained(&note(|row| row.with_group(32)));
+        assert!(text.contains("days to fixing 90, final maturity 2,880"));
+        let mut book = Book::default();
+        book.classes[1].push(Row::default().with_kind(4).with_sides(1, 0));
+        let text = explained(&book.encode().unwrap());
+        assert!(text.contains("equity row: group 0, kind 4, days 0, coupon 0"));
+        assert!(text.ends_with("kind may be ordinary, diversified, index"));
+        let text = explained(&note(|row| row.with_kind(5)));
+        assert!(text.ends_with("kind may be government, qualifying, other, floating"));
     }
 
     #[test]

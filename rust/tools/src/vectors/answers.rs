@@ -12,31 +12,31 @@ fn checksum(bytes: &[u8]) -> u64 {
     bytes.iter().fold(0, step)
 }
 
-/// The name of a call and its figures.
-fn answer(case: &Case) -> (&'static str, Vec<u64>) {
+/// The name of a call and its figures, by a calculation.
+fn answer(by: &dyn Calls, case: &Case) -> (&'static str, Vec<u64>) {
     let book = &case.book;
     let (mut check, mut charge, mut result) = ([0; 3], [0; 75], [0; 4]);
     let (mut interest, mut commodity) = ([0; 13], [0; 7]);
     match &case.call {
         Call::Check => {
-            Second.check(book, &mut check);
+            by.check(book, &mut check);
             ("check", check.to_vec())
         }
         Call::Charge => {
-            Second.charge(book, &mut charge);
+            by.charge(book, &mut charge);
             ("charge", charge.to_vec())
         }
         Call::InterestLadder(group) => {
-            Second.interest_ladder(book, usize::from(*group), &mut interest);
+            by.interest_ladder(book, usize::from(*group), &mut interest);
             ("interest-ladder", interest.to_vec())
         }
         Call::CommodityLadder(group) => {
-            Second.commodity_ladder(book, usize::from(*group), &mut commodity);
+            by.commodity_ladder(book, usize::from(*group), &mut commodity);
             ("commodity-ladder", commodity.to_vec())
         }
         Call::Join { other, room } => {
             let mut out = vec![FILL; *room as usize];
-            Second.join(book, other, &mut out, &mut result);
+            by.join(book, other, &mut out, &mut result);
             ("join", [&result[..], &[checksum(&out)]].concat())
         }
     }
@@ -44,9 +44,14 @@ fn answer(case: &Case) -> (&'static str, Vec<u64>) {
 
 /// The lines of all calls.
 pub fn lines(cases: &[Case]) -> String {
+    lines_by(&Second, cases)
+}
+
+/// The same by a calculation.
+fn lines_by(by: &dyn Calls, cases: &[Case]) -> String {
     let mut text = String::new();
     for case in cases {
-        let (name, figures) = answer(case);
+        let (name, figures) = answer(by, case);
         text.push_str(name);
         for figure in figures {
             text.push_str(&format!(" {figure}"));
@@ -60,6 +65,7 @@ pub fn lines(cases: &[Case]) -> String {
 mod tests {
     use super::super::build::{call, join, row};
     use super::*;
+    use crate::calls::Proved;
 
     #[test]
     fn checksums() {
@@ -70,6 +76,17 @@ mod tests {
             let all = (0..6).fold(0u128, |sum, _| sum * 31 + 256);
             (all % 1_000_000_007) as u64
         });
+    }
+
+    /// Catches a library that does not answer the stored calls as they are stored, without the
+    /// program `vectors`.
+    #[test]
+    fn the_proved_library_gives_the_same_lines() {
+        let cases = super::super::cases(1);
+        let (stored, proved) = (lines(&cases), lines_by(&Proved, &cases));
+        let mut both = stored.lines().zip(proved.lines());
+        assert_eq!(both.find(|(stored, proved)| stored != proved), None);
+        assert_eq!(stored, proved);
     }
 
     #[test]

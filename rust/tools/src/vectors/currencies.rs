@@ -3,7 +3,7 @@
 use super::build::{all_calls, book, call, clean, join, only, row, Call, Case};
 use books::Row;
 
-/// Rows of a currency in two zones, of all three kinds.
+/// Rows of a currency in two zones, of three kinds.
 fn three_kinds(group: u8) -> [Row; 3] {
     let amount = 10 + i64::from(group);
     [

@@ -3,13 +3,13 @@
 use super::build::{all_calls, book, call, clean, only, row, Call, Case};
 use books::Row;
 
-/// Rows that a class refuses, from 4 to 9.
+/// Rows that a class refuses, from 4 to 9; 15 has a file of its own.
 fn bad_rows(class: usize) -> Vec<Row> {
     let good = clean(class);
     let dated = class == 0 || class == 3;
     let days = if dated { 36_001 } else { 1 };
     let coupon = if class == 0 { 10_001 } else { 1 };
-    let kinds = if class < 2 { [0, 4] } else { [1, 255] };
+    let kinds = [[0, 5], [0, 4], [1, 255], [1, 255]][class];
     vec![
         good.with_group(32),
         good.with_group(255),

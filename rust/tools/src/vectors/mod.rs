@@ -5,6 +5,7 @@ mod bands;
 mod build;
 mod currencies;
 mod faults;
+mod floating;
 mod full;
 mod joins;
 mod ladders;
@@ -47,6 +48,7 @@ fn cases(seed: u64) -> Vec<Case> {
         joins::cases(),
         full::cases(),
         currencies::cases(),
+        floating::cases(),
         random::cases(seed),
     ]
     .concat()
@@ -116,7 +118,7 @@ mod tests {
                 .lines()
                 .any(|line| line.starts_with(&format!("{call} {number} ")))
         };
-        for number in 0..=9 {
+        for number in (0..=9).chain([15]) {
             for call in [
                 "check",
                 "charge",

@@ -15,7 +15,8 @@ fn weighted(value: i128) -> String {
 /// The amounts of each band.
 fn amounts(rows: &[Row], group: usize) -> Vec<Sides> {
     let own = rows.iter().filter(|row| usize::from(row.group) == group);
-    let band = |row: &Row| interest_band(row.days.into(), row.coupon.into());
+    let coupon = |row: &Row| if row.kind == 4 { 300 } else { row.coupon };
+    let band = |row: &Row| interest_band(row.days.into(), coupon(row).into());
     let one = |number| sides(own.clone().filter(move |row| band(row) == number));
     (0..15).map(one).collect()
 }

@@ -1,7 +1,8 @@
 /* The proved library with some calls taken out: STAND_IN names one of them, or is "all".
  * A call that is taken out writes zeros and no output. STAND_IN may also name a wrong count
- * of the rows taken by a charge, a fault of its lists of the currencies, or a ladder that does
- * not add up. The archive's own calls have other names here, proved_check and so on. */
+ * of the rows taken by a charge, a fault of its lists of the currencies, a ladder that does not
+ * add up, or a wrong reading of floating-rate notes. The archive's own calls have other names
+ * here, proved_check and so on. */
 #include "market_risk.h"
 
 #include <stdlib.h>
@@ -59,6 +60,31 @@ static void mislist(uint64_t out[75]) {
     if (named("entry_kept") && out[0] != 0) generals[31] = 9;
 }
 
+/* Makes a floating-rate note end at its fixing, or makes it a qualifying bond that matures with
+ * it, coupon 300 (0x012c). */
+static void end_at_fixing(uint8_t *note) { memcpy(note + 4, note + 2, 2); }
+static void make_bond(uint8_t *note) {
+    memcpy(note + 2, note + 4, 2);
+    note[1] = 2, note[4] = 0x2c, note[5] = 0x01;
+}
+
+/* Charges an accepted book by one of the two maturities of its floating-rate notes. */
+static void misread(const uint8_t *book, size_t len, uint64_t out[75]) {
+    static uint8_t copy[8 + 4000 * 16];
+    int at_fixing = named("specific_at_fixing");
+    if (out[0] != 0 || !(at_fixing || named("ladder_at_final"))) return;
+    memcpy(copy, book, len);
+    uint8_t *end = copy + 8 + 16 * (book[0] + 256 * book[1]);
+    for (uint8_t *row = copy + 8; row < end; row += 16)
+        if (row[1] == 4) (at_fixing ? end_at_fixing : make_bond)(row);
+    proved_charge(copy, len, out);
+}
+
+/* Gives a broken floating-rate note the number of bad days. */
+static void mistell(uint64_t *out) {
+    if (named("six_for_fifteen") && out[0] == 15) out[0] = 6;
+}
+
 /* Makes a currency's ladder wrong: half of the residual told as matched between zones 1 and 3,
  * which leaves the charge as it is; gross of the larger side alone; the match of zones 1 and 2
  * left out; a residual below zero; a charge just out of its bounds. */
@@ -97,10 +123,12 @@ static void miscarry(uint64_t out[7]) {
 
 void market_risk_check(const uint8_t *book, size_t len, uint64_t out[3]) {
     if (!taken_out("check", out, 3)) proved_check(book, len, out);
+    mistell(out);
 }
 
 void market_risk_charge(const uint8_t *book, size_t len, uint64_t out[75]) {
     if (!taken_out("charge", out, 75)) proved_charge(book, len, out);
+    misread(book, len, out);
     miscount(out);
     mislist(out);
 }

@@ -6,11 +6,11 @@ use Prim.Native.Nat.{ℕ, _+_, _*_, _≤_}
 use native.Mathlib.Omega.{arith}
 use mir.Val.{boolByte}
 use borrow.Author.Needs.{needs}
-use lib.Dec.{ltb}
 use lib.ListN.{length, getD}
 use Rattle.charges.specs.Bands.{firstBand, highColumn, lowColumn, interestBand}
 use Rattle.charges.specs.Inner.Columns.{ascending, columnSize, largest, columns, columnFrom}
-use Rattle.charges.proofs.Columns.{first-within, counts-once, first-filled}
+use Rattle.charges.proofs.Columns.{counts-once, first-filled}
+use Rattle.charges.proofs.Places.{interest-below}
 use Rattle.charges.proofs.bands.interest_band.Statement.{statement}
 use Rattle.charges.proofs.bands.interest_band.Tie as tie
 
@@ -23,30 +23,33 @@ asked all days true is h = rw is ((refl, omega arith), (refl, h))
 asked all days false is h = rw is ((refl, omega arith), (refl, h))
 
 found : (days : ℕ) (low : Bool) → days ≤ largest
-    → (firstBand days (columnFrom (columnSize * boolByte low) columns) ≡ cond low (firstBand days lowColumn) (firstBand days highColumn))
-    × (cond low (firstBand days lowColumn) (firstBand days highColumn) ≤ 14)
-found days true h = (first-filled days h lowColumn 2, first-within days lowColumn)
-found days false h = (first-filled days h highColumn 4, omega (arith, first-within days highColumn))
+    → firstBand days (columnFrom (columnSize * boolByte low) columns) ≡ cond low (firstBand days lowColumn) (firstBand days highColumn)
+found days true h = first-filled days h lowColumn 2
+found days false h = first-filled days h highColumn 4
 
 mul-first-band : tie.Need-mul-first-band
-mul-first-band c = omega (arith, counts-once (ltb (c .before .args .row .coupon) 300))
+mul-first-band c = omega (arith, counts-once (c .low-coupon .result))
 
 first-band-requires : tie.Need-first-band-requires
-first-band-requires c κs = asked _ _ (ltb (c .before .args .row .coupon) 300) (c .before .pre) (omega arith)
+first-band-requires c κs = asked _ _ (c .low-coupon .result) (c .before .pre) (omega arith)
 
 returns : tie.Need-returns
 unfolding interestBand
 returns c =
     let row = c .before .before .args .row in
-    let low = ltb (row .coupon) 300 in
+    let low = c .before .low-coupon .result in
     let here = found (row .days) low (omega arith) in
-    let is = c .first-band .ensures ∙ ap (λ (all : List ℕ). firstBand (row .days) (columnFrom (columnSize * boolByte low) all)) (c .before .before .pre) ∙ here .0 in
-    (is, omega (arith, is, here .1))
+    let is = c .first-band .ensures
+    ∙ ap (λ (all : List ℕ). firstBand (row .days) (columnFrom (columnSize * boolByte low) all)) (c .before .before .pre)
+    ∙ here
+    ∙ ap (λ (test : Bool). cond test (firstBand (row .days) lowColumn) (firstBand (row .days) highColumn)) (c .before .low-coupon .ensures) in
+    (is, omega (arith, is, interest-below row))
 
 pub interest-band-spec : {M : Type 1} → statement M
 interest-band-spec =
     tie.close
     (tie.spec
+    (λ c. search needs)
     (λ c. search needs)
     mul-first-band
     first-band-requires

@@ -11,7 +11,7 @@ use market_risk::InterestLadder;
 /// The weighted longs and the weighted shorts of a currency's rows.
 fn sides(rows: &[Row], group: u64) -> Sides {
     let own = rows.iter().filter(|row| u64::from(row.group) == group);
-    let weight = |row: &Row| WEIGHTS[band(column(row.coupon), row.days)];
+    let weight = |row: &Row| WEIGHTS[band(column(row), row.days)];
     Sides {
         long: own
             .clone()
