@@ -78,7 +78,7 @@ amountsRefusal row =
 unfoldable pub orElse : ℕ → ℕ → ℕ
 orElse number next = cond (eqb number 0) next number
 
--- the refusal of a row, tried from 4 to 9, or 0 (document 01, Who is told no, and why; P5)
+-- the refusal of a row, tried from 4 to 9, of a floating-rate note 4, 5, 15, 8, 9; or 0 (document 01, Who is told no, and why; P5)
 unfoldable pub rowRefusal : ℕ → Row → ℕ
 rowRefusal class row = orElse (groupRefusal class row) (orElse (termsRefusal class row) (amountsRefusal row))
 

@@ -1,7 +1,6 @@
 -- `book::limits::terms_refusal` meets its contract: the limits are chosen first, and each test gives what the definition does.
 use mathlib.Core.Path.{_≡_, sym, ap, _∙_}
-use mathlib.Core.Bool.{Bool, cond}
-use Prim.Native.Nat.{ℕ}
+use mathlib.Core.Bool.{cond}
 use borrow.Author.Needs.{needs}
 use Rattle.book.specs.Refusals.{mostDays, mostCoupon, mostFixing, mostFinal}
 use Rattle.book.proofs.Terms.{days-over, coupon-over, ends-early, none-refused, terms-answer}
