@@ -13,6 +13,7 @@ static _Alignas(16) volatile uint8_t room[ROOM];
 static uint8_t book[8 + 4 * ROWS * 16];
 static uint8_t joined[sizeof book];
 static uint64_t out[75];
+static uint8_t table[36];
 
 static void fill(void)
 {
@@ -28,8 +29,9 @@ static void fill(void)
 }
 
 static void check(void) { market_risk_check(book, sizeof book, out); }
-static void charge(void) { market_risk_charge(book, sizeof book, out); }
-static void interest_ladder(void) { market_risk_interest_ladder(book, sizeof book, 1, out); }
+static void give_table(void) { market_risk_table(table); }
+static void charge(void) { market_risk_charge(book, sizeof book, table, sizeof table, out); }
+static void interest_ladder(void) { market_risk_interest_ladder(book, sizeof book, table, sizeof table, 1, out); }
 static void commodity_ladder(void) { market_risk_commodity_ladder(book, sizeof book, 1, out); }
 static void join(void)
 {
@@ -64,7 +66,10 @@ static int print_used(const char *name, void (*call)(void))
 
 int main(void)
 {
+    int refused;
+
     fill();
-    return print_used("check", check) + print_used("charge", charge) + print_used("interest_ladder", interest_ladder)
-        + print_used("commodity_ladder", commodity_ladder) + print_used("join", join);
+    refused = print_used("check", check) + print_used("table", give_table); /* the next two take this table */
+    refused += print_used("charge", charge) + print_used("interest_ladder", interest_ladder);
+    return refused + print_used("commodity_ladder", commodity_ladder) + print_used("join", join);
 }

@@ -1,5 +1,6 @@
 /* Charges some small books through the C interface and prints their reports, with the
- * interest charges of each currency that has any.
+ * interest charges of each currency that has any: under document 01's table, and one of them
+ * under a table of its own.
  *
  *     cc -Wall -Wextra -Werror -Iinclude examples/charge.c target/staticlib/libmarket_risk.a -o charge
  */
@@ -51,6 +52,25 @@ static const uint8_t floating[8 + 16] = {
     7, 4, 90, 0, 0x40, 0x0b, 0, 0, 1, 0, 0, 0, 0, 0, 0, 0,
 };
 
+/* A supervisor's own table, made up: 100 basis points in each of the fifteen bands; per cents
+ * within bands, in zones 1, 2, 3, between adjacent zones and between zones 1 and 3. */
+static const uint8_t own[36] = {
+    100, 0, 100, 0, 100, 0, 100, 0, 100, 0, 100, 0, 100, 0, 100, 0, 100, 0, 100, 0, 100, 0, 100, 0, 100, 0, 100, 0, 100, 0,
+    20, 30, 30, 30, 50, 80,
+};
+
+/* Prints the weights and the per cents of a table. */
+static void print_table(const char *name, const uint8_t table[36])
+{
+    printf("%s\nweights", name);
+    for (int band = 0; band < 15; band++)
+        printf(" %d", table[2 * band] + 256 * table[2 * band + 1]);
+    printf("\nper cents");
+    for (int place = 30; place < 36; place++)
+        printf(" %d", table[place]);
+    printf("\n");
+}
+
 /* Prints the specific and the general charge of each currency that has one. */
 static void print_currencies(const uint64_t specifics[32], const uint64_t generals[32])
 {
@@ -60,7 +80,7 @@ static void print_currencies(const uint64_t specifics[32], const uint64_t genera
     }
 }
 
-static void print_report(const char *name, const uint8_t *book, size_t len)
+static void print_report_under(const uint8_t *table, size_t table_len, const char *name, const uint8_t *book, size_t len)
 {
     static const char *const figures[7] = {
         "interest-specific", "interest-general", "equity-specific", "equity-general",
@@ -68,7 +88,7 @@ static void print_report(const char *name, const uint8_t *book, size_t len)
     };
     uint64_t out[75];
 
-    market_risk_charge(book, len, out);
+    market_risk_charge(book, len, table, table_len, out);
     printf("%s\n", name);
     if (out[0] != 0) {
         printf("refused %" PRIu64 " row %" PRIu64 "\n", out[0], out[1]);
@@ -80,10 +100,36 @@ static void print_report(const char *name, const uint8_t *book, size_t len)
     print_currencies(out + 11, out + 43);
 }
 
+/* The same under document 01's table. */
+static void print_report(const char *name, const uint8_t *book, size_t len)
+{
+    uint8_t table[36];
+
+    market_risk_table(table);
+    print_report_under(table, sizeof table, name, book, len);
+}
+
+/* The zones book under the table above: zone 1 is long 7,500, zone 2 short 3,000 and zone 3 long 1,000; zones 1 and 2 match 3,000
+ * at 50%, and 5,500 are left, which is 150,000 + 550,000 mils. Then under the table's first 35 bytes, and with a first weight that
+ * is above the second. */
+static void print_loaded(void)
+{
+    uint8_t falling[sizeof own];
+
+    memcpy(falling, own, sizeof own);
+    falling[0] = 101;
+    print_table("a table of its own", own);
+    print_report_under(own, sizeof own, "zones book under it", zones, sizeof zones);
+    print_report_under(own, sizeof own - 1, "zones book under a table without its last byte", zones, sizeof zones);
+    print_report_under(falling, sizeof falling, "zones book under a table whose weights fall", zones, sizeof zones);
+}
+
 int main(void)
 {
-    uint8_t spoiled[sizeof classes], ended[sizeof floating];
+    uint8_t spoiled[sizeof classes], ended[sizeof floating], table[36];
 
+    market_risk_table(table);
+    print_table("document 01's table", table);
     memcpy(spoiled, classes, sizeof classes);
     spoiled[8 + 3 * 16 + 8] = 0; /* the last row: both amounts are 0 */
     memcpy(ended, floating, sizeof floating);
@@ -96,5 +142,6 @@ int main(void)
     print_report("equity book without its last byte", equity, sizeof equity - 1);
     print_report("book of four classes, its last row bad", spoiled, sizeof spoiled);
     print_report("book of a floating-rate note that ends before its fixing", ended, sizeof ended);
+    print_loaded();
     return 0;
 }

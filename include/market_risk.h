@@ -2,12 +2,12 @@
  *
  * A book is document 01's book file, as bytes in memory. An interest row of kind 4 is a
  * floating-rate note: bytes 2-3 are the days to its next fixing, bytes 4-5 those to final
- * maturity. Every call writes every entry of its result. The first three entries are always
- * the refusal:
+ * maturity. Every call writes every entry of its result. Of all calls but market_risk_table,
+ * which refuses nothing, the first three entries are the refusal:
  *
- *     number   0 when the call is accepted, else document 01's number, 1 to 12, or document
- *              02's 15: a floating-rate note with fixing over 360 days, or final maturity
- *              over 36,000 or before fixing
+ *     number   0 when the call is accepted, else document 01's number, 1 to 12, or one of
+ *              document 02: 15, a floating-rate note with fixing over 360 days, or final
+ *              maturity over 36,000 or before fixing; 18 and 19, a refused table
  *     row      the refused row, counted from 0 through the whole file; 0 for all but 4 to 9
  *              and 15
  *     book     1 for a fault of the second book of a join, else 0
@@ -15,17 +15,28 @@
  * When the number is not 0, every other entry is 0. Charges are in mils, thousandths of
  * the currency unit; weighted positions are amounts (thousands) times basis points.
  *
+ * A table is a supervisor's own interest weights and ladder per cents, in 36 bytes:
+ *
+ *     bytes 0-29   the weights of bands 0 to 14 in basis points, 2 bytes each, low byte first
+ *     bytes 30-35  per cents of the matched: vertical; zone 1, 2, 3; between adjacent zones
+ *                  (1 and 2, 2 and 3); between zones 1 and 3
+ *
+ * A table of another length is refused with 18. With 19 it is refused when a weight is below
+ * that of the band before it or over 2,000, vertical is over a zone's per cent, a zone's over
+ * adjacent, adjacent over 1-3, or 1-3 over 100. A table is tried after 10 and before the book.
+ *
  * Pointers must hold as many bytes or entries as is said. A null pointer with length 0 is
- * a file of no bytes, or an output without room; a result is never null. A result must not
- * overlap a book, nor the output of a join either of its books. No call keeps a pointer,
- * allocates, or has state of its own, so calls may run at once.
+ * a file or table of no bytes, or an output without room; a result is never null. A result
+ * must not overlap a book or a table, nor the output of a join either of its books. No call
+ * keeps a pointer, allocates, or has state of its own, so calls may run at once.
  *
  * The stack that a call takes, in bytes, measured on x86-64 and rounded up. No call
- * recurses, so no book makes it more.
+ * recurses, so no book and no table makes it more.
  *
  *     market_risk_check              200
+ *     market_risk_table              100
  *     market_risk_charge           16000
- *     market_risk_interest_ladder    800
+ *     market_risk_interest_ladder   1000
  *     market_risk_commodity_ladder   600
  *     market_risk_join               500
  *
@@ -46,20 +57,25 @@ extern "C" {
  * out: number, row, book. */
 void market_risk_check(const uint8_t *book, size_t len, uint64_t out[3]);
 
-/* The report of a book.
+/* Document 01's table: 36 bytes, which the calls below accept. */
+void market_risk_table(uint8_t out[36]);
+
+/* The report of a book under a table.
  * out: number, row, book; interest specific, interest general, equity specific,
  * equity general, foreign exchange, commodity; total; taken; then 32 specific and 32
  * general charges. Taken is how many rows were taken from the file: of an accepted book its
  * number of rows, of a refused one 0. Entry 11 + g is the interest specific charge and entry
  * 43 + g the interest general charge of currency g's interest rows alone, g from 0 to 31:
  * entries 11 to 42 sum to entry 3, and entries 43 to 74 to entry 4. */
-void market_risk_charge(const uint8_t *book, size_t len, uint64_t out[75]);
+void market_risk_charge(const uint8_t *book, size_t len, const uint8_t *table,
+                        size_t table_len, uint64_t out[75]);
 
-/* The interest ladder of one currency, group 0 to 31; a greater group is refused with 10.
+/* The interest ladder of one currency under a table, group 0 to 31; a greater group is
+ * refused with 10.
  * out: number, row, book; gross; the match sums: vertical, zones 1, 2, 3, 1-2, 2-3, 1-3;
  * residual; charge. All but the charge are weighted positions. */
-void market_risk_interest_ladder(const uint8_t *book, size_t len, size_t group,
-                                 uint64_t out[13]);
+void market_risk_interest_ladder(const uint8_t *book, size_t len, const uint8_t *table,
+                                 size_t table_len, size_t group, uint64_t out[13]);
 
 /* The ladder of one commodity, group 0 to 31; a greater group is refused with 10.
  * out: number, row, book; matches (each counted on one side), carried (counted at every

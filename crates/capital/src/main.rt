@@ -1,4 +1,4 @@
-// Reads a book from standard input and prints its six charges and their total in mils, or why it is refused.
+// Reads a book from standard input and prints its six charges and their total in mils, by document 01's table, or why it is refused.
 use libc::STDIN_FILENO;
 use libc::STDOUT_FILENO;
 use text::MOST_TEXT;
@@ -10,7 +10,8 @@ const MOST_BYTES: usize = 64009;
 fn main() {
     let mut input = [0u8; MOST_BYTES];
     let n = io::read_full(STDIN_FILENO, &mut input);
-    let report = charges::charge(&input[..n]);
+    let table = table::standard();
+    let report = charges::charge(&input[..n], &table);
     let mut answer = [0u8; MOST_TEXT];
     let length = text::write_report(report, &mut answer);
     io::write_all(STDOUT_FILENO, &answer[..length]);

@@ -22,7 +22,7 @@ use Rattle.book.proofs.Bodies.{class-count}
 use Rattle.book.proofs.Placing.{before-within}
 use Rattle.book.proofs.Walking.{class-rows}
 use Rattle.ladder.specs.Position.{Bands, gross, total}
-use Rattle.ladder.specs.Table.{Table}
+use Rattle.ladder.specs.declared.Table.{Table}
 use Rattle.ladder.specs.Interest.{interestFigures}
 use Rattle.ladder.specs.Commodity.{commodityBandCount, commodityFigures}
 use Rattle.ladder.specs.Nets.{absoluteNets, shorthand}

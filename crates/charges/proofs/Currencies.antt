@@ -20,7 +20,7 @@ use Rattle.sums.proofs.Filling.{listed-length, listed-at}
 use Rattle.book.specs.declared.Row.{Row}
 use Rattle.ladder.specs.Position.{Bands, empty, matched, net, total, vertical}
 use Rattle.ladder.specs.declared.Percents.{Percents}
-use Rattle.ladder.specs.Table.{Table}
+use Rattle.ladder.specs.declared.Table.{Table}
 use Rattle.ladder.specs.Interest.{against, left, zones12, zones23, zones13, crossing, matches, interestFigures}
 use Rattle.ladder.specs.Rows.{weighing, positionsBy, inGroup, ladderOf}
 use Rattle.ladder.proofs.Matching.{same-position}

@@ -14,7 +14,8 @@ use Rattle.book.specs.Refusals.{mostRows}
 use Rattle.book.specs.Accepted.{Clean}
 use Rattle.ladder.specs.declared.positions.Position.{Position}
 use Rattle.ladder.specs.Position.{Bands}
-use Rattle.ladder.specs.Table.{Table, weightIn}
+use Rattle.ladder.specs.declared.Table.{Table}
+use Rattle.ladder.specs.Table.{weightIn}
 use Rattle.ladder.specs.Interest.{interestFigures}
 use Rattle.ladder.specs.Commodity.{commodityBandCount, commodityFigures}
 use Rattle.ladder.specs.Rows.{weighing, inGroup, ladderOf}

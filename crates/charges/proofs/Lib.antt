@@ -2,6 +2,7 @@
 pub mod Arrays
 pub mod Columns
 pub mod Legs
+pub mod Fronts
 pub mod Listing
 pub mod Places
 pub mod Progress
@@ -12,3 +13,4 @@ pub mod Currencies
 pub mod Figures
 pub mod Costs
 pub mod Reporting
+pub mod Reading

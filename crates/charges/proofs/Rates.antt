@@ -6,15 +6,16 @@ use native.Mathlib.Omega.{arith}
 use Rattle.sums.specs.Sums.{span}
 use Rattle.book.specs.declared.Row.{Row}
 use Rattle.ladder.specs.Position.{gross, total}
-use Rattle.ladder.specs.Table.{Table, AcceptedTable}
+use Rattle.ladder.specs.declared.Table.{Table}
 use Rattle.ladder.specs.Rows.{groupsOf}
 use Rattle.ladder.proofs.Netting.{absolutes-within, shorthand-within}
 use Rattle.ladder.proofs.Bounds.{groups-within, general-within, commodities-within}
+use Rattle.ladder.specs.Inner.Steps.{TableBounds}
 use Rattle.charges.specs.Charges.{eightPerCent, groups, currencies, reading, interestFiguresOf, commodityFiguresOf, interestGeneral, equityGeneral, exchangeGeneral, commodityGeneral}
 use Rattle.charges.specs.Inner.Slots.{groupCount}
 use Rattle.charges.proofs.Legs.{amounts}
 
-pub interest-rate : (table : Table) → AcceptedTable table → (rows : List Row) → interestGeneral table rows ≤ 200000 * amounts rows
+pub interest-rate : (table : Table) → TableBounds table → (rows : List Row) → interestGeneral table rows ≤ 200000 * amounts rows
 unfolding interestGeneral interestFiguresOf amounts
 interest-rate table ok rows = general-within (reading 1) table ok groupCount rows
 

@@ -7,7 +7,7 @@ use Rattle.book.specs.declared.Row.{Row}
 use Rattle.book.specs.Refusals.{lastGroup}
 use Rattle.ladder.specs.declared.InterestFigures.{InterestFigures}
 use Rattle.ladder.specs.declared.CommodityFigures.{CommodityFigures}
-use Rattle.ladder.specs.Table.{Table}
+use Rattle.ladder.specs.declared.Table.{Table}
 use Rattle.ladder.specs.Interest.{interestFigures}
 use Rattle.ladder.specs.Commodity.{commodityFigures}
 use Rattle.ladder.specs.Nets.{absoluteNets, shorthand}

@@ -1,4 +1,4 @@
--- What the calls give for any bytes: the figures of an accepted book, or its refusal with all figures zero.
+-- What the calls give for any bytes: the figures of an accepted book, by an accepted table, or the refusal with all figures zero.
 use Prim.Native.Nat.{ℕ, _+_}
 use mathlib.Core.Bool.{cond}
 use mathlib.Core.List.{List}
@@ -8,11 +8,11 @@ use Rattle.book.specs.declared.Row.{Row}
 use Rattle.book.specs.declared.Refusal.{Refusal}
 use Rattle.book.specs.Legs.{legsOf, ofClass}
 use Rattle.book.specs.Refusals.{lastGroup, refused, refusalOf}
-use Rattle.book.specs.Parts.{accepts}
 use Rattle.ladder.specs.declared.InterestFigures.{InterestFigures}
 use Rattle.ladder.specs.declared.CommodityFigures.{CommodityFigures}
 use Rattle.ladder.specs.declared.zones.Matches.{Matches}
-use Rattle.ladder.specs.Table.{Table}
+use Rattle.ladder.specs.declared.Table.{Table}
+use Rattle.table.specs.Loaded.{tableRefusal, tableOf}
 use Rattle.charges.specs.Charges.{Risk, specificCharge, interestGeneral, interestFiguresOf, commodityFiguresOf, interestRisk, equityRisk, exchangeGeneral, commodityGeneral, byCurrency}
 pub use Rattle.charges.specs.declared.Report.{Report}
 pub use Rattle.charges.specs.declared.InterestLadder.{InterestLadder}
@@ -71,14 +71,20 @@ chargedReport table s =
     (byCurrency (specificCharge 1) (classRows s 1))
     (byCurrency (interestGeneral table) (classRows s 1))
 
--- the report of any bytes (document 01, Who is told no, and why)
-unfoldable pub reportOf : Table → List ℕ → Report
-reportOf table s = cond (accepts s) (chargedReport table s) (refusedReport (refusalOf s))
+-- what is refused first, or else what comes after it
+unfoldable pub before : ℕ → Refusal → Refusal
+before number refusal = cond (eqb number 0) refusal (refused number 0)
+
+-- the report of any bytes, by a table of any bytes: 18 and 19 come before the book is looked at (document 01, Who is told no, and why; P10)
+unfoldable pub reportOf : (table s : List ℕ) → Report
+reportOf table s =
+    let refusal = before (tableRefusal table) (refusalOf s) in
+    cond (eqb (refusal .number) 0) (chargedReport (tableOf table) s) (refusedReport refusal)
 
 -- ---- the ladder calls
--- 10 before the book is looked at, then the book's refusal (document 01, Who is told no, and why)
-unfoldable pub ladderRefusal : List ℕ → ℕ → Refusal
-ladderRefusal s group = cond (ltb lastGroup group) (refused 10 0) (refusalOf s)
+-- 10 comes first, then what else the call refuses (document 01, Who is told no, and why)
+unfoldable pub ladderRefusal : Refusal → ℕ → Refusal
+ladderRefusal refusal group = cond (ltb lastGroup group) (refused 10 0) refusal
 
 abbrev pub noMatches : Matches
 noMatches = record { gross = 0; vertical = 0; zone1 = 0; zone2 = 0; zone3 = 0; zones12 = 0; zones23 = 0; zones13 = 0; residual = 0 }
@@ -89,18 +95,14 @@ noInterest = record { matches = noMatches; charge = 0 }
 abbrev pub noCommodity : CommodityFigures
 noCommodity = record { matches = 0; carried = 0; residual = 0; charge = 0 }
 
--- the interest ladder of a currency, in weighted positions (document 01, Interest: bands and zones)
-unfoldable pub interestLadderOf : Table → List ℕ → ℕ → InterestLadder
+-- the interest ladder of a currency, in weighted positions, by a table (document 01, Interest: bands and zones; P10)
+unfoldable pub interestLadderOf : (table s : List ℕ) → ℕ → InterestLadder
 interestLadderOf table s group =
-    record {
-      refusal = ladderRefusal s group;
-      figures = cond (eqb (ladderRefusal s group .number) 0) (interestFiguresOf table group (classRows s 1)) noInterest;
-    }
+    let refusal = ladderRefusal (before (tableRefusal table) (refusalOf s)) group in
+    record { refusal = refusal; figures = cond (eqb (refusal .number) 0) (interestFiguresOf (tableOf table) group (classRows s 1)) noInterest }
 
 -- the ladder of a commodity, in amount units (document 01, The commodities ladder)
 unfoldable pub commodityLadderOf : List ℕ → ℕ → CommodityLadder
 commodityLadderOf s group =
-    record {
-      refusal = ladderRefusal s group;
-      figures = cond (eqb (ladderRefusal s group .number) 0) (commodityFiguresOf group (classRows s 4)) noCommodity;
-    }
+    let refusal = ladderRefusal (refusalOf s) group in
+    record { refusal = refusal; figures = cond (eqb (refusal .number) 0) (commodityFiguresOf group (classRows s 4)) noCommodity }

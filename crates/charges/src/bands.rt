@@ -1,4 +1,4 @@
-// The bands of rows: the last days of the bands, column by column, and the weights of the interest bands.
+// The bands of rows: the last days of the bands, column by column.
 use book::Row;
 use ladder::BANDS;
 ghost use mathlib.Core.Path.{_≡_};
@@ -66,25 +66,6 @@ pub const COLUMNS: [u16; PLACES] = [
     65535,
     65535,
     65535,
-];
-
-// The weights of the interest bands, in basis points.
-pub const WEIGHTS: [u64; BANDS] = [
-    0,
-    20,
-    40,
-    70,
-    125,
-    175,
-    225,
-    275,
-    325,
-    375,
-    450,
-    525,
-    600,
-    800,
-    1250,
 ];
 
 // The first band whose last day is not below the days, in the column from a place on: the quarter of the column that it is in, and where

@@ -16,40 +16,32 @@ ghost use mathlib.Core.List.{map};
 ghost use Prim.Native.Nat.{ℕ, _+_, _*_, _<_, _≤_};
 ghost use lib.ListN.{length, getD};
 ghost use Rattle.sums.specs.Sums.{sumOf};
-ghost use Rattle.ladder.specs.Table.{standardTable};
 ghost use Rattle.ladder.specs.Interest.{interestFigures};
 ghost use Rattle.ladder.specs.Commodity.{commodityBandCount, commodityFigures};
 ghost use Rattle.ladder.specs.Nets.{absoluteNets, shorthand};
-ghost use Rattle.ladder.specs.Inner.Steps.{bandCount};
+ghost use Rattle.ladder.specs.Inner.Steps.{bandCount, TableBounds};
 ghost use Rattle.charges.specs.Charges.{eightPerCent, groups, currencies};
 ghost use Rattle.charges.specs.Inner.Slots.{groupCount, equityFirst, exchangeFirst, slotCount};
-ghost use Rattle.charges.specs.Inner.Tables.{mostGross, bandsFrom, grossFrom, weightedFrom, currencyAt, commodityAt};
+ghost use Rattle.charges.specs.Inner.Tables.{mostGross, tableWith, bandsFrom, grossFrom, weightedFrom, currencyAt, commodityAt};
 
 // 8% of an amount unit, in mils.
 const EIGHT_PER_CENT: u64 = 80000;
 
-// The paper's per cents.
-fn percents() -> Percents
-    ensures { λ r. ⌜ r ≡ standardTable .percents ⌝ }
-{
-    Percents {
-        vertical: 10,
-        zone1: 40,
-        zone2: 30,
-        zone3: 30,
-        adjacent: 40,
-        apart: 100,
-    }
-}
-
-// The interest ladder of a currency, from its first slot on.
-pub fn interest_figures(longs: &[u64], shorts: &[u64], first: usize) -> InterestFigures
+// The interest ladder of a currency, from its first slot on, by a table.
+pub fn interest_figures(
+    longs: &[u64],
+    shorts: &[u64],
+    first: usize,
+    weights: &[u64; BANDS],
+    percents: Percents,
+) -> InterestFigures
+    requires { ⌜ TableBounds (tableWith (now weights) percents) ⌝ }
     requires { ⌜ (first + bandCount ≤ length (now longs)) × (first + bandCount ≤ length (now shorts)) × (grossFrom bandCount (now longs) (now shorts) first ≤ mostGross) ⌝ }
-    ensures { λ r. ⌜ r ≡ interestFigures (standardTable .percents) (weightedFrom standardTable (now (longs .entry)) (now (shorts .entry)) first) ⌝ }
+    ensures { λ r. ⌜ r ≡ interestFigures percents (weightedFrom (tableWith (now (weights .entry)) percents) (now (longs .entry)) (now (shorts .entry)) first) ⌝ }
 {
-    let weighted_longs = tables::weighted_bands(longs, first);
-    let weighted_shorts = tables::weighted_bands(shorts, first);
-    ladder::interest(&weighted_longs, &weighted_shorts, percents())
+    let weighted_longs = tables::weighted_bands(longs, first, weights);
+    let weighted_shorts = tables::weighted_bands(shorts, first, weights);
+    ladder::interest(&weighted_longs, &weighted_shorts, percents)
 }
 
 // The charge of each currency's ladder; one without rows costs nothing and is passed over.
@@ -57,11 +49,14 @@ pub fn interest_generals(
     longs: &[u64; SLOTS],
     shorts: &[u64; SLOTS],
     rows: &[u16; GROUP_SLOTS],
+    weights: &[u64; BANDS],
+    percents: Percents,
 ) -> [u64; GROUPS]
+    requires { ⌜ TableBounds (tableWith (now weights) percents) ⌝ }
     requires { ⌜ (length (now longs) ≡ slotCount) × (length (now shorts) ≡ slotCount) ⌝ }
     requires { ⌜ sumOf (λ group. grossFrom bandCount (now longs) (now shorts) (currencyAt group)) groups ≤ mostGross ⌝ }
     requires { ⌜ ((group : ℕ) → group < groupCount → getD (now rows) (0 + group) 0 ≡ 0 → grossFrom bandCount (now longs) (now shorts) (currencyAt group) ≡ 0) ⌝ }
-    ensures { λ r. ⌜ r ≡ map (λ group. interestFigures (standardTable .percents) (weightedFrom standardTable (now (longs .entry)) (now (shorts .entry)) (currencyAt group)) .charge) groups ⌝ }
+    ensures { λ r. ⌜ r ≡ map (λ group. interestFigures percents (weightedFrom (tableWith (now (weights .entry)) percents) (now (longs .entry)) (now (shorts .entry)) (currencyAt group)) .charge) groups ⌝ }
 {
     let used = tables::used_groups(rows, 0);
     let list = used.list;
@@ -70,7 +65,7 @@ pub fn interest_generals(
     let mut i: usize = 0;
     while i < many {
         let group = list[i];
-        charges[group] += interest_figures(longs, shorts, BANDS * group).charge;
+        charges[group] += interest_figures(longs, shorts, BANDS * group, weights, percents).charge;
         i += 1;
     }
     charges

@@ -1,5 +1,4 @@
 // Parts of the tables of sums, as the charges take them.
-use crate::bands;
 use crate::slots::GROUP_SLOTS;
 use crate::slots::GROUPS;
 use ladder::BANDS;
@@ -10,7 +9,6 @@ ghost use Prim.Native.Nat.{ℕ, _+_, _*_, _<_, _≤_};
 ghost use lib.ListN.{length, getD};
 ghost use Rattle.sums.specs.Sums.{sumOf};
 ghost use Rattle.sums.specs.Inner.Tables.{Reads};
-ghost use Rattle.ladder.specs.Table.{standardTable, weightIn};
 ghost use Rattle.ladder.specs.Commodity.{commodityBandCount};
 ghost use Rattle.ladder.specs.Inner.Steps.{limit, bandCount};
 ghost use Rattle.charges.specs.Charges.{groups};
@@ -25,12 +23,11 @@ pub struct Used {
 }
 
 // The weighted sums of a currency's bands, on one side, from a slot on.
-pub fn weighted_bands(table: &[u64], first: usize) -> [u64; BANDS]
+pub fn weighted_bands(table: &[u64], first: usize, weights: &[u64; BANDS]) -> [u64; BANDS]
     requires { ⌜ first + bandCount ≤ length (now table) ⌝ }
-    requires { ⌜ ((k : ℕ) → k < bandCount → weightIn standardTable k * getD (now table) (first + k) 0 ≤ limit) ⌝ }
-    ensures { λ r. ⌜ Reads bandCount (λ k. weightIn standardTable k * getD (now (table .entry)) (first + k) 0) r ⌝ }
+    requires { ⌜ ((k : ℕ) → k < bandCount → getD (now weights) k 0 * getD (now table) (first + k) 0 ≤ limit) ⌝ }
+    ensures { λ r. ⌜ Reads bandCount (λ k. getD (now (weights .entry)) k 0 * getD (now (table .entry)) (first + k) 0) r ⌝ }
 {
-    let weights = bands::WEIGHTS;
     let mut out = [0u64; BANDS];
     let mut k: usize = 0;
     while k < BANDS {

@@ -10,7 +10,7 @@ use Rattle.sums.proofs.Every.{every-all}
 use Rattle.book.specs.declared.Row.{Row}
 use Rattle.book.specs.Refusals.{lastGroup}
 use Rattle.ladder.specs.Position.{gross, absoluteNet, total}
-use Rattle.ladder.specs.Table.{Table, AcceptedTable}
+use Rattle.ladder.specs.declared.Table.{Table}
 use Rattle.ladder.specs.Interest.{zones, matches}
 use Rattle.ladder.specs.Commodity.{commodityBands}
 use Rattle.ladder.specs.Rows.{weighing, ladderOf}
@@ -18,9 +18,12 @@ use Rattle.ladder.proofs.Matching.{same-position}
 use Rattle.ladder.proofs.AddsUp.{adds-up}
 use Rattle.ladder.proofs.Carrying.{carry-gross, carry-residual, carry-charge}
 use Rattle.ladder.proofs.Bounds.{positionsBy-all}
+use Rattle.ladder.specs.Inner.Steps.{TableBounds}
+use Rattle.table.specs.Loaded.{tableOf}
+use Rattle.table.proofs.Accepting.{described, accepted-table}
 use Rattle.charges.specs.Bands.{bandIn}
 use Rattle.charges.specs.Charges.{reading, ofGroup, interestFiguresOf, commodityFiguresOf}
-use Rattle.charges.specs.Report.{classRows, ladderRefusal, interestLadderOf, commodityLadderOf}
+use Rattle.charges.specs.Report.{classRows, before, ladderRefusal, interestLadderOf, commodityLadderOf}
 use Rattle.charges.proofs.Currencies.{alone-sum}
 use Rattle.charges.proofs.Places.{bandsIn, band-within}
 use Rattle.claims.specs.AddingUp.{weightedSum, plainSum, InterestAddsUp, InterestAddingUpHolds, CommodityAddsUp, CommodityAddingUpHolds}
@@ -38,7 +41,7 @@ currency-sum : (table : Table) (g : ℕ) (rows : List Row) → total (ladderOf (
 unfolding weightedSum bandsIn bandIn
 currency-sum table g rows = ladder-sum 1 g (omega arith) (omega arith) (weighing table (reading 1) .long) (weighing table (reading 1) .short) rows
 
-figures-add-up : (table : Table) → AcceptedTable table → (g : ℕ) (rows : List Row) → InterestAddsUp (interestFiguresOf table g rows) (weightedSum table (ofGroup g rows))
+figures-add-up : (table : Table) → TableBounds table → (g : ℕ) (rows : List Row) → InterestAddsUp (interestFiguresOf table g rows) (weightedSum table (ofGroup g rows))
 unfolding interestFiguresOf span matches
 figures-add-up table ok g rows =
     let all = adds-up (table .percents) (ok .percents) zones (ladderOf (weighing table (reading 1)) g rows) in
@@ -52,8 +55,9 @@ figures-add-up table ok g rows =
     }
 
 pub interest-adding-up : InterestAddingUpHolds
-unfolding interestLadderOf ladderRefusal
-interest-adding-up table ok s none currency h = simp (le-ltb lastGroup currency h, none) (figures-add-up table ok currency (classRows s 1))
+unfolding interestLadderOf ladderRefusal before
+interest-adding-up table fine s none currency h =
+    simp (le-ltb lastGroup currency h, fine, none) (figures-add-up (tableOf table) (accepted-table table (described table fine)) currency (classRows s 1))
 
 -- ---- commodities
 commodity-sum : (g : ℕ) (rows : List Row) → total (ladderOf (reading 4) g rows) commodityBands ≡ plainSum (ofGroup g rows)

@@ -9,13 +9,14 @@ use native.Mathlib.Omega.{arith}
 use Rattle.sums.proofs.Sums.{sumOf-append, sumOf-permuted, sumOf-map}
 use Rattle.book.specs.declared.Row.{Row}
 use Rattle.ladder.specs.Position.{Bands}
-use Rattle.ladder.specs.Table.{Table, AcceptedTable}
+use Rattle.ladder.specs.declared.Table.{Table}
 use Rattle.ladder.specs.Interest.{interestFigures}
 use Rattle.ladder.specs.Commodity.{commodityFigures}
 use Rattle.ladder.specs.Nets.{absoluteNets, shorthand}
 use Rattle.ladder.specs.Rows.{weighing, AtMostTwoZones}
 use Rattle.ladder.proofs.Netting.{absolutes-joined, absolutes-mirrored, shorthand-joined, shorthand-mirrored}
 use Rattle.ladder.proofs.Books.{Exchanges, currency-joined, general-joined, commodity-joined, nets-joined, grouped-permuted, groupsOf-permuted, general-mirrored, commodity-mirrored, nets-mirrored}
+use Rattle.ladder.specs.Inner.Steps.{TableBounds}
 use Rattle.charges.specs.Bands.{lowCoupon, interestBand, commodityBand, bandIn}
 use Rattle.charges.specs.Weights.{interestWeight, equityWeight, specificWeight}
 use Rattle.charges.specs.Charges.{eightPerCent, groups, currencies, reading, specificOf, specificCharge, interestFiguresOf, commodityFiguresOf}
@@ -29,7 +30,7 @@ module _ (rows more : List Row) where
   unfolding specificCharge
   specific-joined class = sumOf-append (specificOf class) rows more
 
-  pub interest-joined : (table : Table) → AcceptedTable table → ((g : ℕ) → List·Memᴰ g groups → AtMostTwoZones (reading 1) (rows ++ more) g)
+  pub interest-joined : (table : Table) → TableBounds table → ((g : ℕ) → List·Memᴰ g groups → AtMostTwoZones (reading 1) (rows ++ more) g)
       → interestGeneral table (rows ++ more) ≤ interestGeneral table rows + interestGeneral table more
   unfolding interestGeneral interestFiguresOf
   interest-joined table ok two = general-joined (reading 1) table ok groups rows more two
@@ -51,7 +52,7 @@ module _ (rows more : List Row) where
   unfolding ofGroup specificCharge
   specific-alone-joined class g = rw (filter-append (λ row. ℕ-discrete (row .group) g) rows more) (sumOf-append (specificOf class) (ofGroup g rows) (ofGroup g more))
 
-  pub general-alone-joined : (table : Table) → AcceptedTable table → (g : ℕ) → g < groupCount → AtMostTwoZones (reading 1) (rows ++ more) g
+  pub general-alone-joined : (table : Table) → TableBounds table → (g : ℕ) → g < groupCount → AtMostTwoZones (reading 1) (rows ++ more) g
       → interestGeneral table (ofGroup g (rows ++ more)) ≤ interestGeneral table (ofGroup g rows) + interestGeneral table (ofGroup g more)
   unfolding interestFiguresOf
   general-alone-joined table ok g h two =

@@ -10,13 +10,13 @@ use Rattle.sums.proofs.Spans.{in-span}
 use Rattle.book.specs.Rows.{rowsOf, decode}
 use Rattle.book.specs.Refusals.{lastGroup, refused}
 use Rattle.book.specs.Accepted.{Accepted}
-use Rattle.book.specs.Parts.{accepts}
 use Rattle.book.proofs.Walking.{class-rows}
 use Rattle.book.proofs.Acceptance.{refused-with-none}
-use Rattle.ladder.specs.Table.{Table, AcceptedTable}
 use Rattle.ladder.specs.Rows.{AtMostTwoZones}
+use Rattle.table.specs.Loaded.{tableRefusal, tableOf}
+use Rattle.table.proofs.Accepting.{described, accepted-table}
 use Rattle.charges.specs.Charges.{groups, reading, specificCharge, interestGeneral, equityGeneral, interestRisk, equityRisk, exchangeGeneral, commodityGeneral}
-use Rattle.charges.specs.Report.{classRows, reportWith, chargedReport, reportOf}
+use Rattle.charges.specs.Report.{classRows, reportWith, chargedReport, before, reportOf}
 use Rattle.join.specs.Joined.{joined}
 use Rattle.join.proofs.Settling.{Joins, joins}
 use Rattle.join.proofs.JoinedBook.{joined-rows, joined-accepted}
@@ -26,10 +26,10 @@ use Rattle.claims.specs.Zones.{TwoZonesEach}
 use Rattle.claims.specs.Demands.{AtMost, no-figures, figure, joinedBook, JoiningHolds}
 use Rattle.claims.proofs.Charging.{specific-joined, interest-joined, equity-joined, exchange-joined, commodities-joined}
 
--- the report of an accepted book
-pub accepted-report : (table : Table) (s : List ℕ) → Accepted s → reportOf table s ≡ chargedReport table s
-unfolding reportOf accepts refused
-accepted-report table s a = simp (refused-with-none s a)
+-- the report of an accepted book, by an accepted table
+pub accepted-report : (table s : List ℕ) → tableRefusal table ≡ 0 → Accepted s → reportOf table s ≡ chargedReport (tableOf table) s
+unfolding reportOf before refused
+accepted-report table s fine a = simp (fine, refused-with-none s a)
 
 -- the bytes that join writes are the joined book
 pub book-written : (a b out : List ℕ) → Joins a b (length out) → joinedBook a b out ≡ joined a b
@@ -59,11 +59,12 @@ unfolding TwoZonesEach
 two-in-each s two g member = two g (omega (arith, in-span g 0 (lastGroup + 1) member))
 
 -- the charges of a book whose rows are those of two
-no-dearer : (table : Table) → AcceptedTable table → (j a b : List ℕ) → Accepted j → Accepted a → Accepted b
+no-dearer : (table : List ℕ) → tableRefusal table ≡ 0 → (j a b : List ℕ) → Accepted j → Accepted a → Accepted b
     → ((class : ℕ) → 1 ≤ class → class ≤ 4 → classRows j class ≡ classRows a class ++ classRows b class)
     → TwoZonesEach j → AtMost (reportFigures (reportOf table j)) (reportFigures (reportOf table a)) (reportFigures (reportOf table b))
 unfolding reportFigures reportWith chargedReport interestRisk equityRisk
-no-dearer table ok j a b of-j of-a of-b legs two =
+no-dearer table fine j a b of-j of-a of-b legs two =
+    let ok = accepted-table table (described table fine) in
     let rows1 = legs 1 (omega arith) (omega arith) in
     let rows2 = legs 2 (omega arith) (omega arith) in
     let rows3 = legs 3 (omega arith) (omega arith) in
@@ -72,16 +73,16 @@ no-dearer table ok j a b of-j of-a of-b legs two =
     omega (arith, ap (specificCharge 1) rows1 ∙ specific-joined (classRows a 1) (classRows b 1) 1) in
     let specific2 : specificCharge 2 (classRows j 2) ≤ specificCharge 2 (classRows a 2) + specificCharge 2 (classRows b 2) =
     omega (arith, ap (specificCharge 2) rows2 ∙ specific-joined (classRows a 2) (classRows b 2) 2) in
-    let interest : interestGeneral table (classRows j 1) ≤ interestGeneral table (classRows a 1) + interestGeneral table (classRows b 1) =
-    rw rows1 (interest-joined _ _ table ok (λ g m. rw rows1 at (two-in-each j two g m))) in
+    let interest : interestGeneral (tableOf table) (classRows j 1) ≤ interestGeneral (tableOf table) (classRows a 1) + interestGeneral (tableOf table) (classRows b 1) =
+    rw rows1 (interest-joined _ _ (tableOf table) ok (λ g m. rw rows1 at (two-in-each j two g m))) in
     let equity : equityGeneral (classRows j 2) ≤ equityGeneral (classRows a 2) + equityGeneral (classRows b 2) = rw rows2 (equity-joined _ _) in
     let exchange : exchangeGeneral (classRows j 3) ≤ exchangeGeneral (classRows a 3) + exchangeGeneral (classRows b 3) = rw rows3 (exchange-joined _ _) in
     let commodity : commodityGeneral (classRows j 4) ≤ commodityGeneral (classRows a 4) + commodityGeneral (classRows b 4) = rw rows4 (commodities-joined _ _) in
-    rw (accepted-report table j of-j, accepted-report table a of-a, accepted-report table b of-b)
+    rw (accepted-report table j fine of-j, accepted-report table a fine of-a, accepted-report table b fine of-b)
     (six-at-most specific1 interest specific2 equity exchange commodity)
 
 pub joining : JoiningHolds
-joining table ok a b out e =
+joining table fine a b out e =
     let settled = joins a b (length out) e in
     let whole = book-written a b out settled in
     let accepted = joined-accepted a b (settled .first) (settled .second) (settled .few) in
@@ -89,5 +90,5 @@ joining table ok a b out e =
     record {
       accepted = rw whole (refused-with-none (joined a b) accepted);
       rows = rw whole (also (rows 1) (also (rows 2) (also (rows 3) (also (rows 4) none))));
-      no-dearer = rw whole (no-dearer table ok (joined a b) a b accepted (settled .first) (settled .second) (joined-legs a b (settled .first) (settled .second)));
+      no-dearer = rw whole (no-dearer table fine (joined a b) a b accepted (settled .first) (settled .second) (joined-legs a b (settled .first) (settled .second)));
     }

@@ -19,13 +19,13 @@ use Rattle.book.proofs.Placing.{of-four}
 use Rattle.book.proofs.Walking.{class-rows, legs-length}
 use Rattle.book.proofs.Passing.{passes-clean, clean-passes}
 use Rattle.book.proofs.Acceptance.{accepted, refused-with-none, class-clean, clean-legs}
-use Rattle.ladder.specs.Table.{Table}
+use Rattle.ladder.specs.declared.Table.{Table}
+use Rattle.table.specs.Loaded.{tableOf}
 use Rattle.charges.specs.Charges.{specificCharge, interestGeneral, interestRisk, equityRisk, exchangeGeneral, commodityGeneral, byCurrency}
-use Rattle.charges.specs.Report.{classRows, chargedReport}
+use Rattle.charges.specs.Report.{classRows, chargedReport, reportOf}
 use Rattle.claims.specs.Orders.{Reordered, Rearranged, ReorderedBook, MirroredBook}
 use Rattle.claims.specs.Demands.{Unchanged, OrderHolds}
 use Rattle.claims.proofs.Charging.{Invariant, mirroredLeg, specific-invariant, interest-invariant, interest-risk-invariant, equity-risk-invariant, exchange-invariant, commodity-invariant, currencies-invariant}
-use Rattle.claims.proofs.Joining.{accepted-report}
 use Rattle.claims.proofs.Mirroring.{rows-whole, mirrored-legs, mirrored-clean}
 
 -- ---- clean rows stay clean in any order
@@ -80,22 +80,26 @@ module _ (c d : List ℕ) (of-c : Accepted c) (legs : ℕ → List Row) (of : Or
   same-taken : length (legsOf d) ≡ length (legsOf c)
   same-taken = legs-length d (still-accepted .sized) ∙ ap rowCount (of .counts) ∙ sym (legs-length c (of-c .sized))
 
-  unchanged : (table : Table) → Unchanged table c d
+  same-report : (table : Table) → chargedReport table d ≡ chargedReport table c
   unfolding chargedReport
+  same-report table =
+      rw (
+        same-cost (interestRisk table) (interest-risk-invariant table) 1 (omega arith) (omega arith),
+        same-cost equityRisk equity-risk-invariant 2 (omega arith) (omega arith),
+        same-cost exchangeGeneral exchange-invariant 3 (omega arith) (omega arith),
+        same-cost commodityGeneral commodity-invariant 4 (omega arith) (omega arith),
+        same-taken,
+        same-cost (byCurrency (specificCharge 1)) (currencies-invariant (specificCharge 1) (specific-invariant 1)) 1 (omega arith) (omega arith),
+        same-cost (byCurrency (interestGeneral table)) (currencies-invariant (interestGeneral table) (interest-invariant table)) 1 (omega arith) (omega arith),
+      )
+
+  -- also where the table is refused
+  unchanged : (table : List ℕ) → Unchanged table c d
+  unfolding reportOf
   unchanged table =
       record {
         accepted = refused-with-none d still-accepted;
-        report =
-            rw (accepted-report table d still-accepted, accepted-report table c of-c)
-            (rw (
-              same-cost (interestRisk table) (interest-risk-invariant table) 1 (omega arith) (omega arith),
-              same-cost equityRisk equity-risk-invariant 2 (omega arith) (omega arith),
-              same-cost exchangeGeneral exchange-invariant 3 (omega arith) (omega arith),
-              same-cost commodityGeneral commodity-invariant 4 (omega arith) (omega arith),
-              same-taken,
-              same-cost (byCurrency (specificCharge 1)) (currencies-invariant (specificCharge 1) (specific-invariant 1)) 1 (omega arith) (omega arith),
-              same-cost (byCurrency (interestGeneral table)) (currencies-invariant (interestGeneral table) (interest-invariant table)) 1 (omega arith) (omega arith),
-            ));
+        report = rw (refused-with-none d still-accepted, refused-with-none c of-c, same-report (tableOf table));
       }
 
 -- ---- in any order, and mirrored in any order

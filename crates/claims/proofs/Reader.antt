@@ -1,4 +1,4 @@
--- The accepted books are those that are described directly; and what each class is handed.
+-- The accepted books and tables are those that are described directly; and what each class is handed.
 -- Assumes nothing.
 use mathlib.Core.Path.{_≡_}
 use mathlib.Core.List.{[], flatMap}
@@ -9,10 +9,17 @@ use Rattle.book.specs.Refusals.{refusalOf}
 use Rattle.book.specs.Parts.{accepts, partOf}
 use Rattle.book.proofs.Bodies.{whole-file}
 use Rattle.book.proofs.Acceptance.{accepted, refused-with-none}
-use Rattle.claims.specs.Demands.{AcceptingHolds, HandingHolds}
+use Rattle.table.proofs.Accepting.{described, taken, standard-accepted}
+use Rattle.claims.specs.Demands.{AcceptingHolds, AcceptingTableHolds, StandardHolds, HandingHolds}
 
 pub accepting : AcceptingHolds
 accepting s = record { described = accepted s; taken = refused-with-none s }
+
+pub accepting-table : AcceptingTableHolds
+accepting-table bytes = record { described = described bytes; taken = taken bytes }
+
+pub standard : StandardHolds
+standard = standard-accepted
 
 pub handing : HandingHolds
 unfolding partOf accepts flatMap

@@ -15,16 +15,18 @@ use Rattle.ladder.specs.Position.{matched, net, total, vertical}
 use Rattle.ladder.specs.Table.{weightIn}
 use Rattle.ladder.specs.Interest.{against, left, zones12, zones23, zones13, crossing, matches}
 use Rattle.ladder.specs.Commodity.{toBand, carry}
+use Rattle.table.specs.Loaded.{weightAt, percentsOf, tableOf, weightsHold, percentsHold, tableRefusal}
 use Rattle.layout.specs.Written.{written}
 use Rattle.layout.specs.Files.{twoBytes, fourBytes, rowBytes, contentsBytes, fileOf, legCounts, bookOf}
 use Rattle.charges.specs.Bands.{firstBand, lowCoupon, interestBand, commodityBand, bandIn}
 use Rattle.charges.specs.Weights.{qualifyingWeight, interestWeight, equityWeight, specificWeight}
 use Rattle.charges.specs.Charges.{specificOf, specificCharge, interestFiguresOf, commodityFiguresOf, interestGeneral, equityGeneral, exchangeGeneral, commodityGeneral, interestRisk, equityRisk, ofGroup, byCurrency}
-use Rattle.charges.specs.Report.{reportWith, refusedReport, chargedReport, reportOf, ladderRefusal, interestLadderOf, commodityLadderOf}
+use Rattle.charges.specs.Report.{reportWith, refusedReport, chargedReport, before, reportOf, ladderRefusal, interestLadderOf, commodityLadderOf}
 use Rattle.join.specs.Joined.{addedCounts, joinedCounts, joinedBody, joined, inBook, settled, joinRefusal, joinedOf, joinOutput}
 use Rattle.market_risk.specs.Entries.{refusalEntries, reportFigures, reportEntries, interestEntries, commodityEntries, joinedEntries}
 use Rattle.claims.specs.Demands.{joinedBook}
 use Rattle.claims.specs.Worked.{Worked, worked}
+use Rattle.claims.specs.Tables.{refusedTables, loadedFacts, orderFacts}
 use Rattle.claims.specs.Facts.{tableFacts, costFacts, currencyFacts, ladderFacts, refusalFacts, joinFacts}
 
 -- what the definitions give: an unfolding is inherited, so each layer names its own and `given` unfolds with all of them
@@ -39,6 +41,10 @@ refusals facts = facts
 unfoldable ladders : List Worked → List Worked
 unfolding matched net total vertical weightIn against left zones12 zones23 zones13 crossing matches toBand carry
 ladders facts = facts
+
+unfoldable tables : List Worked → List Worked
+unfolding weightAt percentsOf tableOf weightsHold percentsHold tableRefusal
+tables facts = facts
 
 unfoldable writing : List Worked → List Worked
 unfolding written twoBytes fourBytes rowBytes contentsBytes fileOf legCounts bookOf addedCounts joinedCounts joinedBody joined inBook settled joinRefusal joinedOf joinOutput joinedBook
@@ -57,8 +63,8 @@ unfolding refusalEntries reportFigures reportEntries interestEntries commodityEn
 answers facts = facts
 
 unfoldable pub given : List Worked → List (List ℕ)
-unfolding file refusals ladders writing weights charges answers reportWith refusedReport chargedReport reportOf ladderRefusal interestLadderOf commodityLadderOf
-given facts = map (λ w. w .given) (file (refusals (ladders (writing (weights (charges (answers facts)))))))
+unfolding file refusals ladders tables writing weights charges answers reportWith refusedReport chargedReport before reportOf ladderRefusal interestLadderOf commodityLadderOf
+given facts = map (λ w. w .given) (file (refusals (ladders (tables (writing (weights (charges (answers facts))))))))
 
 pub expected : List Worked → List (List ℕ)
 unfolding span
@@ -87,6 +93,18 @@ ladder-facts = refl
 pub refusal-facts : given refusalFacts ≡ expected refusalFacts
 unfolding given expected refusalFacts
 refusal-facts = refl
+
+pub refused-tables : given refusedTables ≡ expected refusedTables
+unfolding given expected refusedTables
+refused-tables = refl
+
+pub loaded-facts : given loadedFacts ≡ expected loadedFacts
+unfolding given expected loadedFacts
+loaded-facts = refl
+
+pub order-facts : given orderFacts ≡ expected orderFacts
+unfolding given expected orderFacts
+order-facts = refl
 
 pub join-facts : given joinFacts ≡ expected joinFacts
 unfolding given expected joinFacts

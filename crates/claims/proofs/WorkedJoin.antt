@@ -9,9 +9,9 @@ use Rattle.sums.specs.Every.{Every, none, also}
 use Rattle.sums.proofs.Every.{every-mapped}
 use Rattle.sums.proofs.Spans.{in-span}
 use Rattle.book.specs.declared.Row.{Row}
-use Rattle.ladder.specs.Table.{standardTable}
 use Rattle.ladder.specs.Rows.{AtMostTwoZones}
-use Rattle.ladder.proofs.AddsUp.{standard-accepted}
+use Rattle.table.specs.Loaded.{standardBytes}
+use Rattle.table.proofs.Accepting.{standard-accepted}
 use Rattle.charges.specs.Bands.{bandIn}
 use Rattle.charges.specs.Report.{classRows, reportOf}
 use Rattle.join.specs.Joined.{joinRefusal}
@@ -30,11 +30,11 @@ not-refused : joinRefusal firstZone secondZone (length out) .number ≡ 0
 unfolding given
 not-refused = refl
 
-first-figures : reportFigures (reportOf standardTable firstZone) ≡ 0 ∷ 525000 ∷ 0 ∷ 0 ∷ 0 ∷ 0 ∷ 525000 ∷ []
+first-figures : reportFigures (reportOf standardBytes firstZone) ≡ 0 ∷ 525000 ∷ 0 ∷ 0 ∷ 0 ∷ 0 ∷ 525000 ∷ []
 unfolding given
 first-figures = refl
 
-second-figures : reportFigures (reportOf standardTable secondZone) ≡ 0 ∷ 525000 ∷ 0 ∷ 0 ∷ 0 ∷ 0 ∷ 525000 ∷ []
+second-figures : reportFigures (reportOf standardBytes secondZone) ≡ 0 ∷ 525000 ∷ 0 ∷ 0 ∷ 0 ∷ 0 ∷ 525000 ∷ []
 unfolding given
 second-figures = refl
 
@@ -73,5 +73,5 @@ bounded (figure h more) = one-within h (bounded more)
 pub joined-within : JoinedWithin
 unfolding sums
 joined-within =
-    let most = joining standardTable standard-accepted firstZone secondZone out not-refused .no-dearer two-zones in
+    let most = joining standardBytes standard-accepted firstZone secondZone out not-refused .no-dearer two-zones in
     bounded (rw (first-figures, second-figures) at most)

@@ -9,8 +9,10 @@ use Rattle.ladder.specs.declared.positions.Position.{Position}
 use Rattle.ladder.specs.declared.InterestFigures.{InterestFigures}
 use Rattle.ladder.specs.declared.CommodityFigures.{CommodityFigures}
 use Rattle.ladder.specs.Position.{gross, absoluteNet}
-use Rattle.ladder.specs.Table.{Table, AcceptedTable, weightIn}
+use Rattle.ladder.specs.declared.Table.{Table}
+use Rattle.ladder.specs.Table.{weightIn}
 use Rattle.ladder.specs.Interest.{matchSum}
+use Rattle.table.specs.Loaded.{tableRefusal, tableOf}
 use Rattle.charges.specs.Bands.{interestBand}
 use Rattle.charges.specs.Charges.{ofGroup}
 use Rattle.charges.specs.Report.{classRows, interestLadderOf, commodityLadderOf}
@@ -38,8 +40,8 @@ pub record InterestAddsUp (figures : InterestFigures) (position : Position) : Ty
 -- for every accepted book and every currency, whatever zones it uses
 abbrev pub InterestAddingUpHolds : Type 0
 InterestAddingUpHolds =
-    (table : Table) → AcceptedTable table → (s : List ℕ) → refusalOf s .number ≡ 0 → (currency : ℕ) → currency ≤ lastGroup
-    → InterestAddsUp (interestLadderOf table s currency .figures) (weightedSum table (ofGroup currency (classRows s 1)))
+    (table : List ℕ) → tableRefusal table ≡ 0 → (s : List ℕ) → refusalOf s .number ≡ 0 → (currency : ℕ) → currency ≤ lastGroup
+    → InterestAddsUp (interestLadderOf table s currency .figures) (weightedSum (tableOf table) (ofGroup currency (classRows s 1)))
 
 -- ---- the commodities ladder, its rows coming to a position
 pub record CommodityAddsUp (figures : CommodityFigures) (position : Position) : Type 0 where

@@ -5,8 +5,8 @@ use mathlib.Core.List.{List}
 use lib.ListN.{length, getD}
 use Rattle.sums.specs.Sums.{sumOf}
 use Rattle.book.specs.Refusals.{lastGroup}
-use Rattle.ladder.specs.Table.{Table, AcceptedTable}
 use Rattle.ladder.specs.Rows.{AtMostTwoZones}
+use Rattle.table.specs.Loaded.{tableRefusal}
 use Rattle.charges.specs.Charges.{reading}
 use Rattle.charges.specs.declared.Report.{Report}
 use Rattle.charges.specs.Report.{classRows, reportOf, interestLadderOf}
@@ -21,7 +21,7 @@ abbrev pub generalIn : Report → ℕ → ℕ
 generalIn report currency = getD (report .generals) currency 0
 
 -- ---- of any bytes: an entry for each currency, the entries sum to the figure that they split, and a general one is what the ladder call gives
-pub record Splitting (table : Table) (s : List ℕ) : Type 0 where
+pub record Splitting (table s : List ℕ) : Type 0 where
   pub specifics-many : length (reportOf table s .specifics) ≡ lastGroup + 1
   pub generals-many : length (reportOf table s .generals) ≡ lastGroup + 1
   pub specific : sumOf (λ entry. entry) (reportOf table s .specifics) ≡ reportOf table s .interest .specific
@@ -29,7 +29,7 @@ pub record Splitting (table : Table) (s : List ℕ) : Type 0 where
   pub ladder : (currency : ℕ) → currency ≤ lastGroup → generalIn (reportOf table s) currency ≡ interestLadderOf table s currency .figures .charge
 
 abbrev pub SplittingHolds : Type 0
-SplittingHolds = (table : Table) (s : List ℕ) → Splitting table s
+SplittingHolds = (table s : List ℕ) → Splitting table s
 
 -- ---- in a joined book a currency costs at most what it cost in the two
 pub record CurrencyNoDearer (j a b : Report) (currency : ℕ) : Type 0 where
@@ -39,6 +39,6 @@ pub record CurrencyNoDearer (j a b : Report) (currency : ℕ) : Type 0 where
 -- if it uses at most two zones there itself, whatever the other currencies use
 abbrev pub CurrencyJoiningHolds : Type 0
 CurrencyJoiningHolds =
-    (table : Table) → AcceptedTable table → (a b out : List ℕ) → joinRefusal a b (length out) .number ≡ 0
+    (table : List ℕ) → tableRefusal table ≡ 0 → (a b out : List ℕ) → joinRefusal a b (length out) .number ≡ 0
     → (currency : ℕ) → currency ≤ lastGroup → AtMostTwoZones (reading 1) (classRows (joinedBook a b out) 1) currency
     → CurrencyNoDearer (reportOf table (joinedBook a b out)) (reportOf table a) (reportOf table b) currency

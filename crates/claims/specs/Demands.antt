@@ -10,7 +10,7 @@ use Rattle.book.specs.Rows.{rowsOf}
 use Rattle.book.specs.Refusals.{refused, refusalOf}
 use Rattle.book.specs.Accepted.{Accepted}
 use Rattle.book.specs.Parts.{partOf}
-use Rattle.ladder.specs.Table.{Table, AcceptedTable}
+use Rattle.table.specs.Loaded.{tableRefusal, AcceptedTable, standardBytes}
 use Rattle.charges.specs.Report.{reportOf}
 use Rattle.join.specs.Joined.{joinRefusal, joinedOf, joinOutput}
 use Rattle.market_risk.specs.Entries.{reportFigures}
@@ -24,6 +24,18 @@ pub record Accepting (s : List ℕ) : Type 0 where
 
 abbrev pub AcceptingHolds : Type 0
 AcceptingHolds = (s : List ℕ) → Accepting s
+
+-- ---- the accepted tables are those that are described directly (P10)
+pub record AcceptingTable (bytes : List ℕ) : Type 0 where
+  pub described : tableRefusal bytes ≡ 0 → AcceptedTable bytes
+  pub taken : AcceptedTable bytes → tableRefusal bytes ≡ 0
+
+abbrev pub AcceptingTableHolds : Type 0
+AcceptingTableHolds = (bytes : List ℕ) → AcceptingTable bytes
+
+-- and document 01's is one of them
+abbrev pub StandardHolds : Type 0
+StandardHolds = tableRefusal standardBytes ≡ 0
 
 -- ---- what each class is handed: of an accepted book the parts follow the contents and are the rest of the file; of a refused one each is empty
 pub record Handing (s : List ℕ) : Type 0 where
@@ -43,21 +55,21 @@ pub data AtMost : (whole a b : List ℕ) → Type 0 where
 unfoldable pub joinedBook : List ℕ → List ℕ → List ℕ → List ℕ
 joinedBook a b out = take (joinedOf a b (length out) .length) (joinOutput a b out)
 
--- demand 3, joining, for every two books and every output that join accepts, and one accepted table for all three books
-pub record Joining (table : Table) (a b out : List ℕ) : Type 0 where
+-- demand 3, joining, for every two books and every output that join accepts, and one accepted table for all three books (P10)
+pub record Joining (table a b out : List ℕ) : Type 0 where
   pub accepted : refusalOf (joinedBook a b out) ≡ refused 0 0
   pub rows : Every (λ class. rowsOf (joinedBook a b out) class ≡ rowsOf a class ++ rowsOf b class) classes
   pub no-dearer : TwoZonesEach (joinedBook a b out)
       → AtMost (reportFigures (reportOf table (joinedBook a b out))) (reportFigures (reportOf table a)) (reportFigures (reportOf table b))
 
 abbrev pub JoiningHolds : Type 0
-JoiningHolds = (table : Table) → AcceptedTable table → (a b out : List ℕ) → joinRefusal a b (length out) .number ≡ 0 → Joining table a b out
+JoiningHolds = (table : List ℕ) → tableRefusal table ≡ 0 → (a b out : List ℕ) → joinRefusal a b (length out) .number ≡ 0 → Joining table a b out
 
 -- ---- order and mirror
 -- demand 3, order and mirror, for every accepted book and every book that its rows make in any order, mirrored all or none
-pub record Unchanged (table : Table) (c d : List ℕ) : Type 0 where
+pub record Unchanged (table c d : List ℕ) : Type 0 where
   pub accepted : refusalOf d ≡ refused 0 0
   pub report : reportOf table d ≡ reportOf table c
 
 abbrev pub OrderHolds : Type 0
-OrderHolds = (table : Table) (c d : List ℕ) → refusalOf c .number ≡ 0 → ReorderedBook c d ⊎ MirroredBook c d → Unchanged table c d
+OrderHolds = (table c d : List ℕ) → refusalOf c .number ≡ 0 → ReorderedBook c d ⊎ MirroredBook c d → Unchanged table c d

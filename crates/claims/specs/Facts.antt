@@ -1,11 +1,11 @@
--- Facts of document 01 that E1 to E10 leave open, as it prints them: bands, weights, zones, specific weights, ladders, currencies, and each refusal at its limit.
+-- Facts of document 01 that E1 to E10 leave open, as it prints them: bands, zones, specific weights, ladders, currencies, and each refusal at its limit.
 use Prim.Native.Nat.{ℕ, suc}
 use mathlib.Core.List.{List, [], _∷_, _++_, map}
 use lib.ListN.{length, replicate}
 use Rattle.sums.specs.Sums.{span}
 use Rattle.book.specs.Rows.{decode}
 use Rattle.book.specs.Legs.{Leg}
-use Rattle.ladder.specs.Table.{standardTable, weightIn}
+use Rattle.table.specs.Loaded.{standardBytes}
 use Rattle.layout.specs.Files.{twoBytes, rowBytes, bookOf}
 use Rattle.charges.specs.Bands.{commodityBand}
 use Rattle.charges.specs.Report.{interestLadderOf, commodityLadderOf}
@@ -24,7 +24,7 @@ fieldsOf bytes =
     let row = decode bytes in
     row .group ∷ row .kind ∷ row .days ∷ row .coupon ∷ row .issue ∷ row .long ∷ row .short ∷ []
 
--- the bytes 0 to 15 as a row, and back; both columns, and the commodities' bands; the weights
+-- the bytes 0 to 15 as a row, and back; both columns, and the commodities' bands
 unfoldable pub tableFacts : List Worked
 tableFacts =
     record { given = fieldsOf (span 0 16); expected = 0 ∷ 1 ∷ 770 ∷ 1284 ∷ 1798 ∷ 185207048 ∷ 252579084 ∷ [] }
@@ -32,10 +32,6 @@ tableFacts =
     ∷ lastDays (bandAt 300) (30 ∷ 90 ∷ 180 ∷ 360 ∷ 720 ∷ 1080 ∷ 1440 ∷ 1800 ∷ 2520 ∷ 3600 ∷ 5400 ∷ 7200 ∷ [])
     ∷ lastDays (bandAt 299) (30 ∷ 90 ∷ 180 ∷ 360 ∷ 684 ∷ 1008 ∷ 1296 ∷ 1548 ∷ 2052 ∷ 2628 ∷ 3348 ∷ 3816 ∷ 4320 ∷ 7200 ∷ [])
     ∷ lastDays (λ days. commodityBand (commodity 4 days 1 0 .row)) (30 ∷ 90 ∷ 180 ∷ 360 ∷ 720 ∷ 1080 ∷ [])
-    ∷ record {
-      given = map (weightIn standardTable) (span 0 15);
-      expected = 0 ∷ 20 ∷ 40 ∷ 70 ∷ 125 ∷ 175 ∷ 225 ∷ 275 ∷ 325 ∷ 375 ∷ 450 ∷ 525 ∷ 600 ∷ 800 ∷ 1250 ∷ [];
-    }
     ∷ []
 
 -- the zones' edges in four currencies: band 3 against 4, 6 against 7, 4 against 6, 7 against 14
@@ -99,15 +95,15 @@ currencyFacts =
 unfoldable pub ladderFacts : List Worked
 ladderFacts =
     record {
-      given = interestEntries (interestLadderOf standardTable interestExample 7);
+      given = interestEntries (interestLadderOf standardBytes interestExample 7);
       expected = 0 ∷ 0 ∷ 0 ∷ 86498750 ∷ 4998750 ∷ 2000000 ∷ 0 ∷ 0 ∷ 0 ∷ 11250000 ∷ 10000000 ∷ 30001250 ∷ 4580112500 ∷ [];
     }
     ∷ record {
-      given = interestEntries (interestLadderOf standardTable zoneEdges 4);
+      given = interestEntries (interestLadderOf standardBytes zoneEdges 4);
       expected = 0 ∷ 0 ∷ 0 ∷ 15250 ∷ 0 ∷ 0 ∷ 0 ∷ 2750 ∷ 0 ∷ 0 ∷ 0 ∷ 9750 ∷ 1057500 ∷ [];
     }
     ∷ record { given = commodityEntries (commodityLadderOf commodityExample 4); expected = 0 ∷ 0 ∷ 0 ∷ 1400 ∷ 1200 ∷ 200 ∷ 79200000 ∷ [] }
-    ∷ record { given = interestEntries (interestLadderOf standardTable (replicate 7 0) 32); expected = 10 ∷ replicate 12 0 }
+    ∷ record { given = interestEntries (interestLadderOf standardBytes (replicate 7 0) 32); expected = 10 ∷ replicate 12 0 }
     ∷ record { given = commodityEntries (commodityLadderOf (replicate 7 0) 31); expected = 1 ∷ replicate 6 0 }
     ∷ []
 

@@ -6,3 +6,4 @@ pub mod Currencies
 pub mod AddingUp
 pub mod Worked
 pub mod Facts
+pub mod Tables

@@ -3,7 +3,7 @@ use Prim.Native.Nat.{ℕ, _≤_}
 use mathlib.Core.List.{List, [], _∷_, _++_, flatMap}
 use lib.ListN.{take, replicate}
 use Rattle.book.specs.Legs.{Leg}
-use Rattle.ladder.specs.Table.{standardTable}
+use Rattle.table.specs.Loaded.{standardBytes}
 use Rattle.layout.specs.Files.{twoBytes, bookOf}
 use Rattle.charges.specs.Bands.{interestBand}
 use Rattle.charges.specs.Report.{reportOf}
@@ -36,18 +36,18 @@ pub record Worked : Type 0 where
 -- a charged book: specific and general interest, specific and general equity, foreign exchange, commodities, the total, and the rows taken
 abbrev pub costs : List ℕ → (interest-specific interest-general equity-specific equity-general exchange commodity total taken : ℕ) → Worked
 costs book is ig es eg x c total taken =
-    record { given = take 11 (reportEntries (reportOf standardTable book)); expected = 0 ∷ 0 ∷ 0 ∷ is ∷ ig ∷ es ∷ eg ∷ x ∷ c ∷ total ∷ taken ∷ [] }
+    record { given = take 11 (reportEntries (reportOf standardBytes book)); expected = 0 ∷ 0 ∷ 0 ∷ is ∷ ig ∷ es ∷ eg ∷ x ∷ c ∷ total ∷ taken ∷ [] }
 
 -- the specific and the general charge of some currencies, one after the other (P6)
 abbrev pub splits : List ℕ → List ℕ → List ℕ → Worked
 splits book currencies expected =
-    let report = reportOf standardTable book in
+    let report = reportOf standardBytes book in
     record { given = flatMap (λ currency. specificIn report currency ∷ generalIn report currency ∷ []) currencies; expected = expected }
 
 -- a refused book: number and row, and no figure, also of a currency
 abbrev pub refuses : List ℕ → ℕ → ℕ → Worked
 refuses book number row =
-    record { given = reportEntries (reportOf standardTable book); expected = number ∷ row ∷ 0 ∷ replicate 72 0 }
+    record { given = reportEntries (reportOf standardBytes book); expected = number ∷ row ∷ 0 ∷ replicate 72 0 }
 
 -- the band of some days at a coupon
 abbrev pub bandAt : (coupon days : ℕ) → ℕ
@@ -138,4 +138,4 @@ pub data Within : (figures most : List ℕ) → Type 0 where
 
 abbrev pub JoinedWithin : Type 0
 JoinedWithin =
-    Within (reportFigures (reportOf standardTable (joinedBook firstZone secondZone (replicate 40 0)))) (0 ∷ 1050000 ∷ 0 ∷ 0 ∷ 0 ∷ 0 ∷ 1050000 ∷ [])
+    Within (reportFigures (reportOf standardBytes (joinedBook firstZone secondZone (replicate 40 0)))) (0 ∷ 1050000 ∷ 0 ∷ 0 ∷ 0 ∷ 0 ∷ 1050000 ∷ [])

@@ -1,17 +1,12 @@
--- The interest ladder adds up, for all bands and for every accepted table of per cents; and document 01's table is accepted.
+-- The interest ladder adds up, for all bands and for per cents in their order.
 -- Assumes nothing.
-use Prim.Native.Nat.{ℕ, zero, suc, _+_, _*_, _≤_}
-use mathlib.Core.Path.{_≡_, refl, sym, ap, _∙_}
-use mathlib.Core.Bool.{Bool, true, _&&_}
-use mathlib.Core.List.{List, [], _∷_, _++_}
+use Prim.Native.Nat.{ℕ, _+_, _*_, _≤_}
+use mathlib.Core.Path.{_≡_, sym, ap, _∙_}
+use mathlib.Core.List.{_++_}
 use native.Mathlib.Nat.{mul-le-mul-right}
 use native.Mathlib.Omega.{arith}
-use lib.ListN.{getD}
-use lib.Dec.{leb}
-use borrow.Author.Tests.{leb-true}
-use Rattle.sums.proofs.Cases.{both}
 use Rattle.ladder.specs.Position.{Bands, _⊕_, gross, net, absoluteNet, total, vertical}
-use Rattle.ladder.specs.Table.{Percents, AcceptedPercents, AcceptedTable, standardTable, weightIn}
+use Rattle.ladder.specs.Table.{Percents, AcceptedPercents}
 use Rattle.ladder.specs.Interest.{Zones, Matches, zoneNets, together, matches, matchSum, charge, allBands}
 use Rattle.ladder.specs.Inner.Steps.{zonesGross}
 use Rattle.ladder.proofs.Matching.{Takes, takes-matched, takes-then, takes-both, takes-gross, takes-net}
@@ -100,18 +95,3 @@ adds-up p ok z f =
 -- what a machine number must hold
 pub charge-within : (p : Percents) → AcceptedPercents p → (z : Zones) (f : Bands) → chargeOf p z f ≤ 100 * (matches z f) .gross
 charge-within p ok z f = omega (arith, charge≤ p ok (matches z f), gross-adds-up z f)
-
--- ---- document 01's table is accepted
-up-to : ℕ → List ℕ → Bool
-up-to bound [] = true
-up-to bound (n ∷ list) = leb n bound && up-to bound list
-
-entry-within : (bound : ℕ) (list : List ℕ) → up-to bound list ≡ true → (k : ℕ) → getD list k 0 ≤ bound
-unfolding up-to
-entry-within bound [] e k = omega arith
-entry-within bound (n ∷ list) e zero = leb-true _ _ (both _ _ e .0)
-entry-within bound (n ∷ list) e (suc k) = entry-within bound list (both (leb n bound) _ e .1) k
-
-pub standard-accepted : AcceptedTable standardTable
-unfolding weightIn up-to
-standard-accepted = record { weights = entry-within 2000 (standardTable .weights) refl; percents = omega arith }

@@ -8,7 +8,7 @@ use Rattle.sums.specs.Sums.{sumOf, sumAt}
 use Rattle.sums.proofs.Cases.{counted-times}
 use Rattle.sums.proofs.Sums.{sumOf-append, sumOf-permuted, sumOf-map, sumOf-plus, sumOf≤, sumAt-weighted}
 use Rattle.ladder.specs.Position.{Bands}
-use Rattle.ladder.specs.Table.{Table, AcceptedTable, weightIn}
+use Rattle.ladder.specs.Table.{Table, weightIn}
 use Rattle.ladder.specs.Interest.{zones, charge, interestFigures}
 use Rattle.ladder.specs.Commodity.{CommodityFigures, commodityBands, commodityFigures}
 use Rattle.ladder.specs.Rows.{Reading, weighing, positionsBy, inGroup, ladderOf, groupsOf, AtMostTwoZones}
@@ -18,6 +18,7 @@ use Rattle.ladder.proofs.Joined.{joined}
 use Rattle.ladder.proofs.Unused.{one-empty}
 use Rattle.ladder.proofs.Carrying.{carry-joined, carryFigures-mirrored}
 use Rattle.ladder.proofs.Mirrored.{matches-mirrored}
+use Rattle.ladder.specs.Inner.Steps.{TableBounds}
 
 -- the bands times their weights
 abbrev pub weighted : Table → Bands → Bands
@@ -138,7 +139,7 @@ module _ {Row : Type 0} (read : Reading Row) where
 
 -- ---- interest, for every accepted table: one currency, and all
 module _ {Row : Type 0} (read : Reading Row) (table : Table) where
-  pub currency-joined : AcceptedTable table → (g : ℕ) (rows more : List Row) → AtMostTwoZones read (rows ++ more) g
+  pub currency-joined : TableBounds table → (g : ℕ) (rows more : List Row) → AtMostTwoZones read (rows ++ more) g
       → interestCharge table (ladderOf (weighing table read) g (rows ++ more))
       ≤ interestCharge table (ladderOf (weighing table read) g rows) + interestCharge table (ladderOf (weighing table read) g more)
   currency-joined ok g rows more most =
@@ -146,7 +147,7 @@ module _ {Row : Type 0} (read : Reading Row) (table : Table) where
       let empty-zone = one-empty read g (weighing table read .long) (weighing table read .short) (rows ++ more) most in
       rw append (joined zones _ _ (table .percents) (ok .percents) (rw append at empty-zone))
 
-  pub general-joined : AcceptedTable table → (groups : List ℕ) (rows more : List Row) → ((g : ℕ) → List·Memᴰ g groups → AtMostTwoZones read (rows ++ more) g)
+  pub general-joined : TableBounds table → (groups : List ℕ) (rows more : List Row) → ((g : ℕ) → List·Memᴰ g groups → AtMostTwoZones read (rows ++ more) g)
       → grouped (weighing table read) (interestCharge table) groups (rows ++ more)
       ≤ grouped (weighing table read) (interestCharge table) groups rows + grouped (weighing table read) (interestCharge table) groups more
   general-joined ok groups rows more most =

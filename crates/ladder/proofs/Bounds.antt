@@ -10,7 +10,7 @@ use Rattle.sums.proofs.Sums.{sumOf-plus, sumOf≤, sumOf-rate}
 use Rattle.sums.specs.Every.{Every}
 use Rattle.sums.proofs.Spans.{slots-within, slots-all, sum-room}
 use Rattle.ladder.specs.Position.{Bands, gross, total}
-use Rattle.ladder.specs.Table.{Table, AcceptedTable}
+use Rattle.ladder.specs.Table.{Table}
 use Rattle.ladder.specs.Interest.{matches, zones}
 use Rattle.ladder.specs.Rows.{Reading, weighing, positionsBy, inGroup, ladderOf, groupsOf}
 use Rattle.ladder.proofs.Matching.{same-position}
@@ -18,6 +18,7 @@ use Rattle.ladder.proofs.Totals.{total-sides, gross-sum}
 use Rattle.ladder.proofs.AddsUp.{charge-within}
 use Rattle.ladder.proofs.Carrying.{commodity-within}
 use Rattle.ladder.proofs.Books.{weighted, interestCharge, commodityCharge, amountOf, grouped, ladderOf-weighted}
+use Rattle.ladder.specs.Inner.Steps.{TableBounds}
 
 -- each row is counted at one index at most
 pub positionsBy-within : {Row : Type 0} (index long short : Row → ℕ) (n : ℕ) (rows : List Row)
@@ -71,7 +72,7 @@ module _ {Row : Type 0} (read : Reading Row) (n : ℕ) (rows : List Row) where
       )
 
 -- ---- interest: no weight is above 2,000, and no charge above 100%
-pub weighted-gross : (table : Table) → AcceptedTable table → (f : Bands) (list : List ℕ) → gross (total (weighted table f) list) ≤ 2000 * gross (total f list)
+pub weighted-gross : (table : Table) → TableBounds table → (f : Bands) (list : List ℕ) → gross (total (weighted table f) list) ≤ 2000 * gross (total f list)
 weighted-gross table ok f list =
     omega (
       arith,
@@ -81,7 +82,7 @@ weighted-gross table ok f list =
           (λ k. omega (arith, mul-le-mul-right ((f k) .long) (ok .weights k), mul-le-mul-right ((f k) .short) (ok .weights k))),
     )
 
-pub general-within : {Row : Type 0} (read : Reading Row) (table : Table) → AcceptedTable table → (many : ℕ) (rows : List Row)
+pub general-within : {Row : Type 0} (read : Reading Row) (table : Table) → TableBounds table → (many : ℕ) (rows : List Row)
     → grouped (weighing table read) (interestCharge table) (span 0 many) rows ≤ 200000 * sumOf (amountOf read) rows
 unfolding matches span
 general-within read table ok many rows =

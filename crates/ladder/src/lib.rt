@@ -32,6 +32,12 @@ pub struct Percents {
     pub apart: u64,
 }
 
+// The table of the interest ladder: a weight for each band, in basis points, and the per cents of the steps.
+pub struct Table {
+    pub weights: [u64; BANDS],
+    pub percents: Percents,
+}
+
 // The figures of the interest ladder call; the charge in mils.
 pub struct InterestFigures {
     pub matches: Matches,

@@ -3,7 +3,7 @@ ghost use mathlib.Core.Path.{_≡_};
 ghost use Prim.Native.Nat.{_+_, _≤_};
 ghost use lib.ListN.{length as len};
 ghost use Rattle.book.specs.Refusals.{refusalOf};
-ghost use Rattle.ladder.specs.Table.{standardTable};
+ghost use Rattle.table.specs.Loaded.{standardBytes};
 ghost use Rattle.layout.specs.Written.{written};
 ghost use Rattle.charges.specs.Report.{reportOf, interestLadderOf, commodityLadderOf};
 ghost use Rattle.join.specs.Joined.{joinedOf, joinOutput};
@@ -25,12 +25,20 @@ pub extern "C" fn market_risk_check(book: &[u8], out: &mut [u64; 3])
     ];
 }
 
-// The report of a book.
+// Document 01's table.
 #[no_mangle]
-pub extern "C" fn market_risk_charge(book: &[u8], out: &mut [u64; REPORT])
-    ensures { λ r. ⌜ now (out .exit) ≡ reportEntries (reportOf standardTable (now (book .entry))) ⌝ }
+pub extern "C" fn market_risk_table(out: &mut [u8; 36])
+    ensures { λ r. ⌜ now (out .exit) ≡ standardBytes ⌝ }
 {
-    let report = charges::charge(book);
+    *out = table::standard();
+}
+
+// The report of a book, by a table.
+#[no_mangle]
+pub extern "C" fn market_risk_charge(book: &[u8], table: &[u8], out: &mut [u64; REPORT])
+    ensures { λ r. ⌜ now (out .exit) ≡ reportEntries (reportOf (now (table .entry)) (now (book .entry))) ⌝ }
+{
+    let report = charges::charge(book, table);
     let figures = [
         report.refusal.number as u64,
         report.refusal.row as u64,
@@ -64,12 +72,17 @@ fn write_entries(entries: &[u64], out: &mut [u64; REPORT], at: usize)
     }
 }
 
-// The interest ladder of a currency.
+// The interest ladder of a currency, by a table.
 #[no_mangle]
-pub extern "C" fn market_risk_interest_ladder(book: &[u8], group: usize, out: &mut [u64; 13])
-    ensures { λ r. ⌜ now (out .exit) ≡ interestEntries (interestLadderOf standardTable (now (book .entry)) group) ⌝ }
+pub extern "C" fn market_risk_interest_ladder(
+    book: &[u8],
+    table: &[u8],
+    group: usize,
+    out: &mut [u64; 13],
+)
+    ensures { λ r. ⌜ now (out .exit) ≡ interestEntries (interestLadderOf (now (table .entry)) (now (book .entry)) group) ⌝ }
 {
-    let ladder = charges::interest_ladder(book, group);
+    let ladder = charges::interest_ladder(book, table, group);
     *out = [
         ladder.refusal.number as u64,
         ladder.refusal.row as u64,

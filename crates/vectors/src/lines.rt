@@ -31,8 +31,8 @@ pub fn check(book: &[u8]) {
     end();
 }
 
-pub fn charge(book: &[u8]) {
-    let report = charges::charge(book);
+pub fn charge(book: &[u8], table: &[u8]) {
+    let report = charges::charge(book, table);
     start(b"charge", report.refusal);
     figure(report.interest.specific);
     figure(report.interest.general);
@@ -49,8 +49,8 @@ pub fn charge(book: &[u8]) {
     end();
 }
 
-pub fn interest_ladder(book: &[u8], group: usize) {
-    let ladder = charges::interest_ladder(book, group);
+pub fn interest_ladder(book: &[u8], table: &[u8], group: usize) {
+    let ladder = charges::interest_ladder(book, table, group);
     start(b"interest-ladder", ladder.refusal);
     figure(ladder.figures.matches.gross);
     figure(ladder.figures.matches.vertical);
@@ -72,6 +72,16 @@ pub fn commodity_ladder(book: &[u8], group: usize) {
     figure(ladder.figures.carried);
     figure(ladder.figures.residual);
     figure(ladder.figures.charge);
+    end();
+}
+
+// Document 01's table, byte by byte.
+pub fn standard_table() {
+    let table = table::standard();
+    io::write_all(STDOUT_FILENO, b"table");
+    for i in 0..36usize {
+        figure(wide(table[i]));
+    }
     end();
 }
 

@@ -3,7 +3,21 @@
 mod input;
 mod lines;
 
-fn answer_book(call: u8, in_runs: bool) -> bool {
+// No stored table is longer.
+const MOST_TABLE: usize = 256;
+
+// A call by a table of its own.
+fn answer_by_table(call: u8, in_runs: bool) -> bool {
+    let length = input::read_u16();
+    let mut space = [0u8; MOST_TABLE];
+    let n = input::read_book(&mut space, length, false);
+    if n != length {
+        return false;
+    }
+    answer_book(call, in_runs, &space[..n])
+}
+
+fn answer_book(call: u8, in_runs: bool, table: &[u8]) -> bool {
     let group = input::read_u16();
     let length = input::read_u32();
     let mut space = io::large_buffer();
@@ -13,10 +27,21 @@ fn answer_book(call: u8, in_runs: bool) -> bool {
     }
     match call {
         1 => lines::check(&space[..n]),
-        2 => lines::charge(&space[..n]),
-        3 => lines::interest_ladder(&space[..n], group),
+        2 => lines::charge(&space[..n], table),
+        3 => lines::interest_ladder(&space[..n], table, group),
         _ => lines::commodity_ladder(&space[..n], group),
     }
+    true
+}
+
+// A call by document 01's table, or by none.
+fn answer_standard(call: u8, in_runs: bool) -> bool {
+    let table = table::standard();
+    answer_book(call, in_runs, &table)
+}
+
+fn answer_table() -> bool {
+    lines::standard_table();
     true
 }
 
@@ -50,8 +75,11 @@ fn answer_next() -> bool {
     let in_runs = 128 <= tag;
     let call = tag % 128;
     match call {
-        1..=4 => answer_book(call, in_runs),
+        1..=4 => answer_standard(call, in_runs),
         5 => answer_join(in_runs),
+        6 => answer_by_table(2, in_runs),
+        7 => answer_by_table(3, in_runs),
+        8 => answer_table(),
         _ => false,
     }
 }

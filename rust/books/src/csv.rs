@@ -29,14 +29,14 @@ pub struct Parsed {
 }
 
 /// A number of a field, within what its bytes can hold.
-fn field<T: TryFrom<u64>>(name: &str, text: &str) -> Result<T, String> {
+pub(crate) fn field<T: TryFrom<u64>>(name: &str, text: &str) -> Result<T, String> {
     let digits = !text.is_empty() && text.bytes().all(|byte| byte.is_ascii_digit());
     if !digits {
         return Err(format!("{name} is '{text}', not a whole number"));
     }
     let number = text.parse::<u64>().ok();
     let fits = number.and_then(|number| T::try_from(number).ok());
-    fits.ok_or_else(|| format!("{name} is {text}, too large for its bytes in a row"))
+    fits.ok_or_else(|| format!("{name} is {text}, too large for its bytes"))
 }
 
 /// The names that a class or kind may have, for a message.

@@ -1,7 +1,8 @@
-//! Books for the tools: rows and files, CSV text, and random books from a seed.
+//! Books for the tools: rows and files, CSV text, tables of the ladder and their text, and random
+//! books and tables from a seed.
 //!
-//! Nothing here charges anything, and nothing here decides whether a book is
-//! accepted: damaged books pass through as they are.
+//! Nothing here charges anything, and nothing here decides whether a book or a table is
+//! accepted: damaged ones pass through as they are.
 
 pub mod csv;
 pub mod damage;
@@ -9,6 +10,7 @@ pub mod file;
 pub mod generate;
 pub mod names;
 pub mod random;
+pub mod tables;
 
 pub use file::{Book, Row, CLASSES, MOST_ROWS, ROW_BYTES};
 pub use random::Random;

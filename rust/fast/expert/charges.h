@@ -22,18 +22,20 @@ struct totals {
     uint32_t currencies_used, commodities_used;
 };
 
-static inline void take_interest(struct nets *nets, struct totals *totals, const uint8_t *row) {
+static inline void take_interest(struct nets *nets, struct totals *totals, const uint8_t *row,
+                                 const struct table *table) {
     uint64_t head = word(row), amounts = word(row + 8);
     uint32_t group = head & 31, kind = head >> 8 & 7, days = (uint16_t)(head >> 16);
     uint32_t coupon = (uint16_t)(head >> 32), floating = -(kind >> 2);
     uint32_t maturity = days ^ (floating & (days ^ coupon));
     uint32_t band = INTEREST[coupon < 300][CELL(days)];
     uint32_t specific = SPECIFIC[kind][(maturity > 180) + (maturity > 720)];
-    __m128i weights = _mm_set_epi64x(specific, WEIGHT[band]);
+    int64_t weight = table->weights[band];
+    __m128i weights = _mm_set_epi64x(specific, weight);
     __m128i weighted = _mm_mul_epu32(weights, _mm_set1_epi64x(amount_of(amounts)));
     struct currency *currency = &nets->interest[group];
     currency->sums = _mm_add_epi64(currency->sums, weighted);
-    currency->bands[band] += WEIGHT[band] * net_of(amounts);
+    currency->bands[band] += weight * net_of(amounts);
     totals->currencies_used |= 1u << group;
 }
 
@@ -78,19 +80,20 @@ static inline uint64_t specific(const struct currency *of) {
     return 100 * (uint64_t)_mm_cvtsi128_si64(_mm_unpackhi_epi64(of->sums, of->sums));
 }
 
-/* One currency's general charge. */
-static inline uint64_t general(const struct currency *of) {
+/* One currency's general charge. Twice a match in bands or a zone is what gross has above net. */
+static inline uint64_t general(const struct currency *of, const struct table *table) {
     uint64_t weighted = _mm_cvtsi128_si64(of->sums), gross[3];
     int64_t net[3];
     add(of->bands, 4, &gross[0], &net[0]);
     add(of->bands + 4, 3, &gross[1], &net[1]);
     add(of->bands + 7, 8, &gross[2], &net[2]);
-    uint64_t zones = 20 * (gross[0] - absolute(net[0]))
-        + 15 * (gross[1] - absolute(net[1]) + gross[2] - absolute(net[2]));
+    uint64_t twice = table->vertical * (weighted - gross[0] - gross[1] - gross[2]);
+    for (int zone = 0; zone < 3; zone++)
+        twice += table->zones[zone] * (gross[zone] - absolute(net[zone]));
     uint64_t near = offset(&net[0], &net[1]);
     near += offset(&net[1], &net[2]);
-    uint64_t far = offset(&net[0], &net[2]) + absolute(net[0] + net[1] + net[2]);
-    return zones + 40 * near + 100 * far + 5 * (weighted - gross[0] - gross[1] - gross[2]);
+    uint64_t far = offset(&net[0], &net[2]), left = absolute(net[0] + net[1] + net[2]);
+    return twice / 2 + table->adjacent * near + table->zones_1_3 * far + 100 * left;
 }
 
 /* One commodity's charge, without 15,000 for its gross. */
@@ -104,13 +107,14 @@ static inline uint64_t commodity(const int64_t *bands) {
     return 6000 * carried + 135000 * absolute(net);
 }
 
-static inline void charges(const struct nets *nets, const struct totals *totals, uint64_t *out) {
+static inline void charges(const struct nets *nets, const struct totals *totals,
+                           const struct table *table, uint64_t *out) {
     uint64_t commodities = 15000 * totals->commodities, equity = 0, gross = 0;
     int64_t net = 0;
     for (uint32_t used = totals->currencies_used; used; used &= used - 1) {
         int group = __builtin_ctz(used);
         out[3] += out[11 + group] = specific(&nets->interest[group]);
-        out[4] += out[43 + group] = general(&nets->interest[group]);
+        out[4] += out[43 + group] = general(&nets->interest[group], table);
     }
     for (uint32_t used = totals->commodities_used; used; used &= used - 1)
         commodities += commodity(nets->commodity[__builtin_ctz(used)]);

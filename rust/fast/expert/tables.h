@@ -1,4 +1,4 @@
-/* Bands and weights, as tables. */
+/* Bands and specific weights, as tables. */
 
 #include <stdint.h>
 
@@ -25,10 +25,6 @@ static const uint8_t INTEREST[2][CELLS] = {
 static const uint8_t COMMODITY[CELLS] = {
     UP_TO(30) = 0, FROM(30, 90) = 1, FROM(90, 180) = 2, FROM(180, 360) = 3,
     FROM(360, 720) = 4, FROM(720, 1080) = 5, OVER(1080) = 6};
-
-/* The weight of each interest band, in basis points. */
-static const int64_t WEIGHT[16] = {0,   20,  40,  70,  125, 175, 225,  275,
-                                   325, 375, 450, 525, 600, 800, 1250, 0};
 
 /* Specific weights by kind: of interest by final maturity, up to 180 days, 720 and over; of
  * equity. */

@@ -1,6 +1,7 @@
 //! The charges of the sums, in mils.
 
 use crate::pass::{Commodity, Currency, Sides, Sums, SUM};
+use crate::table::Table;
 
 /// The numbers of the bits that are set.
 fn groups(mut bits: u32) -> impl Iterator<Item = usize> {
@@ -36,7 +37,7 @@ fn zone(bands: &[Sides]) -> (u64, u64, i64) {
 
 /// The ten figures of one currency's ladder, in the order of the ladder call.
 #[inline(always)]
-pub fn currency(bands: &Currency) -> [u64; 10] {
+pub fn currency(bands: &Currency, table: &Table) -> [u64; 10] {
     let gross = bands[..SUM].iter().flatten().sum();
     let (vertical_1, zone_1, mut one) = zone(&bands[..4]);
     let (vertical_2, zone_2, mut two) = zone(&bands[4..7]);
@@ -46,10 +47,13 @@ pub fn currency(bands: &Currency) -> [u64; 10] {
     let zones_2_3 = offset(&mut two, &mut three);
     let zones_1_3 = offset(&mut one, &mut three);
     let residual = (one + two + three).unsigned_abs();
-    let charge = 10 * vertical
-        + 40 * (zone_1 + zones_1_2 + zones_2_3)
-        + 30 * (zone_2 + zone_3)
-        + 100 * (zones_1_3 + residual);
+    let charge = table.vertical * vertical
+        + table.zones[0] * zone_1
+        + table.zones[1] * zone_2
+        + table.zones[2] * zone_3
+        + table.adjacent * (zones_1_2 + zones_2_3)
+        + table.zones_1_3 * zones_1_3
+        + 100 * residual;
     [
         gross, vertical, zone_1, zone_2, zone_3, zones_1_2, zones_2_3, zones_1_3, residual, charge,
     ]
@@ -58,11 +62,16 @@ pub fn currency(bands: &Currency) -> [u64; 10] {
 /// The specific and the general charge of each currency that has rows, written to its place
 /// in two lists, and their sums.
 #[inline(always)]
-pub fn interest(sums: &Sums, specifics: &mut [u64], generals: &mut [u64]) -> [u64; 2] {
+pub fn interest(
+    sums: &Sums,
+    table: &Table,
+    specifics: &mut [u64],
+    generals: &mut [u64],
+) -> [u64; 2] {
     let mut both = [0; 2];
     for group in groups(sums.currencies) {
         let bands = &sums.interest[group];
-        let (specific, general) = (100 * bands[SUM][0], currency(bands)[9]);
+        let (specific, general) = (100 * bands[SUM][0], currency(bands, table)[9]);
         (specifics[group], generals[group]) = (specific, general);
         both = [both[0] + specific, both[1] + general];
     }

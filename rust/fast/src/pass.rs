@@ -2,7 +2,8 @@
 
 use crate::book::{Bad, Book};
 use crate::row::Row;
-use crate::tables::{cell, COMMODITY, EQUITY, INTEREST, SPECIFIC, WEIGHTS};
+use crate::table::Weights;
+use crate::tables::{cell, COMMODITY, EQUITY, INTEREST, SPECIFIC};
 
 /// Longs and shorts.
 pub type Sides = [u64; 2];
@@ -31,10 +32,10 @@ pub struct Sums {
 
 /// Adds a row to its interest band.
 #[inline(always)]
-pub fn add_interest(bands: &mut Currency, row: Row) {
+pub fn add_interest(bands: &mut Currency, row: Row, weights: &Weights) {
     let column = usize::from(row.coupon() < 300);
     let band = usize::from(INTEREST[column][cell(row.days())] & 15);
-    let weight = WEIGHTS[band];
+    let weight = weights[band];
     bands[band][0] += weight * row.long();
     bands[band][1] += weight * row.short();
 }
@@ -69,8 +70,8 @@ impl Sums {
     /// Takes a book in, up to its first bad row, and gives how many rows it took. The sums
     /// are large: they are not returned.
     #[inline(always)]
-    pub fn take(&mut self, book: &Book) -> Result<usize, Bad> {
-        let interest = self.take_interest(book)?;
+    pub fn take(&mut self, book: &Book, weights: &Weights) -> Result<usize, Bad> {
+        let interest = self.take_interest(book, weights)?;
         let equity = self.take_equity(book)?;
         let exchange = book.each(2, |row| self.exchange[row.group()] += row.net())?;
         let commodity = self.take_commodity(book)?;
@@ -80,11 +81,11 @@ impl Sums {
     // Sums over all groups are kept in local variables, so that they stay in registers.
 
     #[inline(always)]
-    fn take_interest(&mut self, book: &Book) -> Result<usize, Bad> {
+    fn take_interest(&mut self, book: &Book, weights: &Weights) -> Result<usize, Bad> {
         let mut used = 0;
         let taken = book.each(0, |row| {
             let currency = &mut self.interest[row.group()];
-            add_interest(currency, row);
+            add_interest(currency, row, weights);
             currency[SUM][0] += row.amount() * specific(row);
             used |= 1 << row.group();
         })?;

@@ -1,9 +1,4 @@
-//! Bands and weights, as tables.
-
-/// The weights of the interest bands, in basis points.
-pub static WEIGHTS: [u64; 16] = [
-    0, 20, 40, 70, 125, 175, 225, 275, 325, 375, 450, 525, 600, 800, 1250, 0,
-];
+//! Bands and specific weights, as tables.
 
 /// The last days of the interest bands: coupons of 300 and more, then those below.
 const HIGH: [usize; 12] = [

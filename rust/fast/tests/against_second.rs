@@ -102,7 +102,7 @@ fn rows_taken_in_every_mix_of_counts() {
     for mix in 0..256 {
         let counts = [0, 2, 4, 6].map(|place| few[mix >> place & 3]);
         let rows: usize = counts.iter().sum();
-        let taken = |bad| second::charge(&mixed(counts, bad)).taken;
+        let taken = |bad| second::charge(&mixed(counts, bad), &second::table()).taken;
         compare(&mixed(counts, None), 3);
         assert_eq!(taken(None), rows as u64);
         for bad in 0..rows {

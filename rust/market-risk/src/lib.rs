@@ -1,14 +1,15 @@
 //! Safe Rust over the proved market-risk library.
 //!
 //! A book is the bytes of document 01's book file. Each call answers with its figures,
-//! or with the [`Refusal`] that says who is told no and why.
+//! or with the [`Refusal`] that says who is told no and why. A charge and an interest ladder
+//! are computed under a [`Table`] of weights and per cents.
 //!
 //! ```
 //! // Market 3: an ordinary share long 100, an index short 40 (in thousands).
 //! let mut book = vec![0, 0, 2, 0, 0, 0, 0, 0];
 //! book.extend([3, 1, 0, 0, 0, 0, 0, 0, 100, 0, 0, 0, 0, 0, 0, 0]);
 //! book.extend([3, 3, 0, 0, 0, 0, 0, 0, 0, 0, 0, 0, 40, 0, 0, 0]);
-//! let report = market_risk::charge(&book)?;
+//! let report = market_risk::charge(&book, &market_risk::Table::amendment())?;
 //! assert_eq!(report.equity_specific, 8_800_000);
 //! assert_eq!(report.equity_general, 4_800_000);
 //! assert_eq!(report.total, 13_600_000);
@@ -21,8 +22,10 @@
 
 pub mod raw;
 mod refusal;
+mod table;
 
 pub use refusal::Refusal;
+pub use table::{PerCents, Table};
 
 /// The six charges of a book and their total, in mils, how many rows were taken, and the two
 /// interest charges of each currency, in mils.
@@ -95,16 +98,18 @@ fn list(out: &[u64; 75], first: usize) -> [u64; 32] {
     std::array::from_fn(|group| out[first + group])
 }
 
-/// The report of a book.
+/// The report of a book under a table.
 ///
 /// ```
-/// assert_eq!(market_risk::charge(&[0; 8])?.total, 0);
+/// use market_risk::{charge, Table};
+/// let table = Table::amendment();
+/// assert_eq!(charge(&[0; 8], &table)?.total, 0);
 /// // Two currencies: other paper long 10 at 30 days in currency 0, which costs 8% and bears
 /// // no weight; a government bond long 10 at 60 days in currency 31, which bears 0.20%.
 /// let mut book = vec![2, 0, 0, 0, 0, 0, 0, 0];
 /// book.extend([0, 3, 30, 0, 0x20, 3, 0, 0, 10, 0, 0, 0, 0, 0, 0, 0]);
 /// book.extend([31, 1, 60, 0, 0x20, 3, 0, 0, 10, 0, 0, 0, 0, 0, 0, 0]);
-/// let report = market_risk::charge(&book)?;
+/// let report = charge(&book, &table)?;
 /// assert_eq!((report.specifics[0], report.generals[0]), (800_000, 0));
 /// assert_eq!((report.specifics[31], report.generals[31]), (0, 20_000));
 /// assert_eq!(report.specifics.iter().sum::<u64>(), report.interest_specific);
@@ -113,13 +118,18 @@ fn list(out: &[u64; 75], first: usize) -> [u64; 32] {
 /// // and 2,880 (0x0b40) to final maturity in the place of the coupon, which cost 1.60%.
 /// let mut book = vec![1, 0, 0, 0, 0, 0, 0, 0];
 /// book.extend([7, 4, 90, 0, 0x40, 0x0b, 0, 0, 10, 0, 0, 0, 0, 0, 0, 0]);
-/// let report = market_risk::charge(&book)?;
+/// let report = charge(&book, &table)?;
 /// assert_eq!((report.interest_specific, report.interest_general), (160_000, 20_000));
+/// // A table with 50 basis points in every band: 0.50% of 10 in place of 0.20%.
+/// let mut bytes = *table.bytes();
+/// bytes[..30].copy_from_slice(&[50, 0].repeat(15));
+/// let report = charge(&book, &Table::new(&bytes)?)?;
+/// assert_eq!((report.interest_specific, report.interest_general), (160_000, 50_000));
 /// # Ok::<(), market_risk::Refusal>(())
 /// ```
-pub fn charge(book: &[u8]) -> Result<Report, Refusal> {
+pub fn charge(book: &[u8], table: &Table) -> Result<Report, Refusal> {
     let mut out = [0; 75];
-    raw::charge(book, &mut out);
+    raw::charge(book, table.bytes(), &mut out);
     Refusal::of(&out)?;
     Ok(Report {
         interest_specific: out[3],
@@ -135,19 +145,24 @@ pub fn charge(book: &[u8]) -> Result<Report, Refusal> {
     })
 }
 
-/// The interest ladder of one currency, group 0 to 31.
+/// The interest ladder of one currency under a table, group 0 to 31.
 ///
 /// ```
+/// use market_risk::{interest_ladder, Table};
 /// // Currency 7, a government bond long 10 at 60 days, coupon 8%.
 /// let mut book = vec![1, 0, 0, 0, 0, 0, 0, 0];
 /// book.extend([7, 1, 60, 0, 0x20, 3, 0, 0, 10, 0, 0, 0, 0, 0, 0, 0]);
-/// let ladder = market_risk::interest_ladder(&book, 7)?;
+/// let ladder = interest_ladder(&book, &Table::amendment(), 7)?;
 /// assert_eq!((ladder.gross, ladder.residual, ladder.charge), (200, 200, 20_000));
 /// # Ok::<(), market_risk::Refusal>(())
 /// ```
-pub fn interest_ladder(book: &[u8], group: usize) -> Result<InterestLadder, Refusal> {
+pub fn interest_ladder(
+    book: &[u8],
+    table: &Table,
+    group: usize,
+) -> Result<InterestLadder, Refusal> {
     let mut out = [0; 13];
-    raw::interest_ladder(book, group, &mut out);
+    raw::interest_ladder(book, table.bytes(), group, &mut out);
     Refusal::of(&out)?;
     Ok(InterestLadder {
         gross: out[3],

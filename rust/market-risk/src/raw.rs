@@ -2,15 +2,25 @@
 //!
 //! The first three entries are the refusal's number, row and book, all 0 when the call
 //! is accepted; every other entry is 0 when it is not. The library writes every entry.
+//! The result of `table` is bytes and no call of it is refused.
 
 /// The names and types of `include/market_risk.h`.
 mod c {
     extern "C" {
         pub fn market_risk_check(book: *const u8, len: usize, out: *mut u64);
-        pub fn market_risk_charge(book: *const u8, len: usize, out: *mut u64);
+        pub fn market_risk_table(out: *mut u8);
+        pub fn market_risk_charge(
+            book: *const u8,
+            len: usize,
+            table: *const u8,
+            table_len: usize,
+            out: *mut u64,
+        );
         pub fn market_risk_interest_ladder(
             book: *const u8,
             len: usize,
+            table: *const u8,
+            table_len: usize,
             group: usize,
             out: *mut u64,
         );
@@ -39,17 +49,40 @@ pub fn check(book: &[u8], out: &mut [u64; 3]) {
     unsafe { c::market_risk_check(book.as_ptr(), book.len(), out.as_mut_ptr()) }
 }
 
+/// Document 01's table.
+pub fn table(out: &mut [u8; 36]) {
+    // SAFETY: as in `check`.
+    unsafe { c::market_risk_table(out.as_mut_ptr()) }
+}
+
 /// Number, row, book; the six charges; the total; the rows taken; the specific interest
 /// charges of currencies 0 to 31; their general interest charges.
-pub fn charge(book: &[u8], out: &mut [u64; 75]) {
+pub fn charge(book: &[u8], table: &[u8], out: &mut [u64; 75]) {
     // SAFETY: as in `check`.
-    unsafe { c::market_risk_charge(book.as_ptr(), book.len(), out.as_mut_ptr()) }
+    unsafe {
+        c::market_risk_charge(
+            book.as_ptr(),
+            book.len(),
+            table.as_ptr(),
+            table.len(),
+            out.as_mut_ptr(),
+        )
+    }
 }
 
 /// Number, row, book; gross, vertical, zones 1, 2, 3, 1-2, 2-3, 1-3, residual, charge.
-pub fn interest_ladder(book: &[u8], group: usize, out: &mut [u64; 13]) {
+pub fn interest_ladder(book: &[u8], table: &[u8], group: usize, out: &mut [u64; 13]) {
     // SAFETY: as in `check`; every group is allowed.
-    unsafe { c::market_risk_interest_ladder(book.as_ptr(), book.len(), group, out.as_mut_ptr()) }
+    unsafe {
+        c::market_risk_interest_ladder(
+            book.as_ptr(),
+            book.len(),
+            table.as_ptr(),
+            table.len(),
+            group,
+            out.as_mut_ptr(),
+        )
+    }
 }
 
 /// Number, row, book; matches, carried, residual, charge.

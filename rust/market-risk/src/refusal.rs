@@ -16,7 +16,7 @@ use std::fmt;
 /// ```
 #[derive(Clone, Copy, Debug, PartialEq, Eq)]
 pub struct Refusal {
-    /// 1 to 12, or 15.
+    /// 1 to 12, 15, 18 or 19.
     pub number: u64,
     /// The bad row, counted from 0 through the whole file; 0 for all but 4 to 9 and 15.
     pub row: u64,
@@ -25,15 +25,20 @@ pub struct Refusal {
 }
 
 impl Refusal {
+    /// The first three entries of a result.
+    pub(crate) fn read(out: &[u64]) -> Refusal {
+        Refusal {
+            number: out[0],
+            row: out[1],
+            book: out[2],
+        }
+    }
+
     /// The refusal at the head of a result, if there is one.
     pub(crate) fn of(out: &[u64]) -> Result<(), Refusal> {
-        match out[0] {
-            0 => Ok(()),
-            number => Err(Refusal {
-                number,
-                row: out[1],
-                book: out[2],
-            }),
+        match Refusal::read(out) {
+            Refusal { number: 0, .. } => Ok(()),
+            refusal => Err(refusal),
         }
     }
 
@@ -58,6 +63,8 @@ impl Refusal {
             11 => "more than 4,000 rows joined",
             12 => "output shorter than the joined book",
             15 => "fixing over 360 days, or final maturity over 36,000 or before fixing",
+            18 => "the table has not 36 bytes",
+            19 => "the table's weights fall or exceed 2,000, or its per cents are out of order",
             _ => "no reason that this interface knows",
         }
     }

@@ -1,6 +1,17 @@
 //! The calls over the linked library: document 01's books, and every entry written.
 
-use market_risk::{charge, check, commodity_ladder, interest_ladder, join, joined, raw, Refusal};
+use market_risk::{check, commodity_ladder, join, joined, raw};
+use market_risk::{InterestLadder, Refusal, Report, Table};
+
+/// The report under document 01's table.
+fn charge(book: &[u8]) -> Result<Report, Refusal> {
+    market_risk::charge(book, &Table::amendment())
+}
+
+/// Currency 7's ladder under document 01's table.
+fn ladder(book: &[u8]) -> Result<InterestLadder, Refusal> {
+    market_risk::interest_ladder(book, &Table::amendment(), 7)
+}
 
 /// A government row of currency 7 at coupon 800, long above zero and short below.
 fn bond(days: u16, net: i32) -> [u8; 16] {
@@ -23,7 +34,7 @@ fn interest(rows: &[[u8; 16]]) -> Vec<u8> {
 #[test]
 fn e3_and_e4() {
     let e3 = interest(&[bond(270, 75), bond(900, -30), bond(6000, 10)]);
-    let ladder = interest_ladder(&e3, 7).unwrap();
+    let ladder = ladder(&e3).unwrap();
     assert_eq!((ladder.gross, ladder.zones_1_2), (15_750, 5_250));
     assert_eq!((ladder.residual, ladder.charge), (5_250, 735_000));
     let a = interest(&[bond(270, 75), bond(900, -30)]);
@@ -43,11 +54,12 @@ fn e3_and_e4() {
 fn a_refused_charge_has_no_figure_and_no_row_taken() {
     let rows = [bond(270, 75), bond(900, -30), bond(6000, 10)];
     let late = interest(&[&rows[..], &[bond(36_001, 1)]].concat());
+    let table = Table::amendment();
     let mut out = [u64::MAX; 75];
-    raw::charge(&late, &mut out);
+    raw::charge(&late, table.bytes(), &mut out);
     assert_eq!(out[..3], [6, 3, 0]);
     assert_eq!(out[3..], [0; 72]);
-    raw::charge(&interest(&rows)[..55], &mut out);
+    raw::charge(&interest(&rows)[..55], table.bytes(), &mut out);
     assert_eq!(out[..3], [3, 0, 0]);
     assert_eq!(out[3..], [0; 72]);
 }
@@ -62,7 +74,7 @@ fn refusals_carry_number_row_and_book() {
     };
     assert_eq!(check(&bad), Err(refusal));
     assert_eq!(charge(&bad), Err(refusal));
-    assert_eq!(interest_ladder(&bad, 7), Err(refusal));
+    assert_eq!(ladder(&bad), Err(refusal));
     assert_eq!(commodity_ladder(&bad, 7), Err(refusal));
     let of_b = Refusal { book: 1, ..refusal };
     assert_eq!(join(&[0; 8], &bad, &mut []), Err(of_b));
@@ -89,7 +101,7 @@ fn a_floating_rate_note_is_charged_by_fixing_and_final_maturity() {
     assert_eq!(report.interest_specific, 16_000);
     assert_eq!(report.interest_general, 2_000);
     assert_eq!((report.specifics[7], report.generals[7]), (16_000, 2_000));
-    let ladder = interest_ladder(&book, 7).unwrap();
+    let ladder = ladder(&book).unwrap();
     assert_eq!((ladder.gross, ladder.charge), (20, 2_000));
     for (maturity, weight) in [(180, 25), (181, 100), (720, 100), (721, 160)] {
         let report = charge(&interest(&[note(90, maturity)])).unwrap();
@@ -109,7 +121,7 @@ fn fifteen_is_told_with_its_row() {
         let bad = interest(&[note(360, 360), note(fixing, maturity)]);
         assert_eq!(check(&bad), Err(refusal));
         assert_eq!(charge(&bad), Err(refusal));
-        assert_eq!(interest_ladder(&bad, 7), Err(refusal));
+        assert_eq!(ladder(&bad), Err(refusal));
         assert_eq!(commodity_ladder(&bad, 7), Err(refusal));
         let of_b = Refusal { book: 1, ..refusal };
         assert_eq!(join(&[0; 8], &bad, &mut []), Err(of_b));
@@ -130,7 +142,7 @@ fn every_number_that_is_given_has_words() {
         book: 0,
     };
     let unknown = of(99).reason();
-    for number in (1..=12).chain([15]) {
+    for number in (1..=12).chain([15, 18, 19]) {
         assert_ne!(of(number).reason(), unknown, "{number}");
         let rows = (4..=9).contains(&number) || number == 15;
         assert_eq!(of(number).to_string().contains(" row 3"), rows, "{number}");
@@ -142,10 +154,11 @@ fn every_entry_is_written() {
     let marked = u64::MAX;
     let (mut check, mut charge, mut join) = ([marked; 3], [marked; 75], [marked; 4]);
     let (mut interest, mut commodity) = ([marked; 13], [marked; 7]);
+    let table = Table::amendment();
     for book in [&[0; 8][..], &[]] {
         raw::check(book, &mut check);
-        raw::charge(book, &mut charge);
-        raw::interest_ladder(book, 31, &mut interest);
+        raw::charge(book, table.bytes(), &mut charge);
+        raw::interest_ladder(book, table.bytes(), 31, &mut interest);
         raw::commodity_ladder(book, 31, &mut commodity);
         raw::join(book, &[0; 8], &mut [0; 8], &mut join);
         let entries = [&check[..], &charge, &interest, &commodity, &join].concat();

@@ -1,7 +1,7 @@
 //! Each named field against its entry of the C interface, on books whose entries differ.
 //! Catches two fields that are exchanged, and one that is read from another's entry.
 
-use market_risk::{charge, commodity_ladder, interest_ladder, join, joined, raw, Refusal};
+use market_risk::{charge, commodity_ladder, interest_ladder, join, joined, raw, Refusal, Table};
 
 /// A row of 16 bytes with one signed amount: long above zero, short below.
 fn row(group: u8, kind: u8, days: u16, coupon: u16, net: i32) -> [u8; 16] {
@@ -81,9 +81,10 @@ fn hold(books: &[Read]) {
 
 /// The entries and the fields of a report.
 fn charged(book: &[u8]) -> Read {
+    let table = Table::amendment();
     let mut entries = [0; 75];
-    raw::charge(book, &mut entries);
-    let report = charge(book).unwrap();
+    raw::charge(book, table.bytes(), &mut entries);
+    let report = charge(book, &table).unwrap();
     let figures = [
         report.interest_specific,
         report.interest_general,
@@ -126,9 +127,10 @@ fn report() {
 
 /// The entries and the fields of currency 7's ladder.
 fn interest(book: &[u8]) -> Read {
+    let table = Table::amendment();
     let mut entries = [0; 13];
-    raw::interest_ladder(book, 7, &mut entries);
-    let ladder = interest_ladder(book, 7).unwrap();
+    raw::interest_ladder(book, table.bytes(), 7, &mut entries);
+    let ladder = interest_ladder(book, &table, 7).unwrap();
     let fields = vec![
         ladder.gross,
         ladder.vertical,

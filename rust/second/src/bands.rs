@@ -51,7 +51,7 @@ fn low_coupon_band(days: i128) -> usize {
     }
 }
 
-/// The weight of a band, in basis points: Table 1 (A.1, 11).
+/// The weight of a band in document 01's table, in basis points: Table 1 (A.1, 11).
 pub fn interest_weight(band: usize) -> i128 {
     match band {
         0 => 0,

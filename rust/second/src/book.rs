@@ -80,7 +80,7 @@ impl Refusal {
 }
 
 /// A number of up to eight bytes, low byte first.
-fn number(bytes: &[u8]) -> u64 {
+pub fn number(bytes: &[u8]) -> u64 {
     bytes
         .iter()
         .rev()

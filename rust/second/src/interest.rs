@@ -1,9 +1,11 @@
-//! Interest: general risk by the maturity method (A.1, 8 to 13), and specific risk
-//! (A.1, 3 to 7). The two are charged separately (A.1, 2).
+//! Interest: general risk by the maturity method (A.1, 8 to 13) under a loaded table
+//! (document 02, P10), and specific risk (A.1, 3 to 7). The two are charged separately
+//! (A.1, 2).
 
-use crate::bands::{interest_band, interest_weight, zone_of_band};
+use crate::bands::{interest_band, zone_of_band};
 use crate::book::{read, Class, Refusal, Row};
 use crate::kinds::{FLOATING, GOVERNMENT, OTHER, QUALIFYING};
+use crate::table::{read_table, Table};
 use crate::{figure, GROUPS};
 
 /// What the ladder call gives: gross, the match sums, the residual and the charge.
@@ -38,8 +40,8 @@ fn band_of(row: &Row) -> usize {
 }
 
 /// The weighted longs and the weighted shorts of one band (A.1, 11).
-fn weighted(rows: &[Row], band: usize) -> (i128, i128) {
-    let weight = interest_weight(band);
+fn weighted(rows: &[Row], band: usize, table: &Table) -> (i128, i128) {
+    let weight = table.weights[band];
     rows.iter()
         .filter(|row| band_of(row) == band)
         .fold((0, 0), |(long, short), row| {
@@ -70,8 +72,8 @@ fn against(one: i128, other: i128) -> (i128, i128, i128) {
 
 /// The ladder over the rows of one currency, in weighted positions. Zones 1 and 2 come
 /// first, and no position is used twice: document 01's order (A.1, 13).
-fn ladder(rows: &[Row]) -> InterestLadder {
-    let bands: Vec<(i128, i128)> = (0..15).map(|band| weighted(rows, band)).collect();
+fn ladder(rows: &[Row], table: &Table) -> InterestLadder {
+    let bands: Vec<(i128, i128)> = (0..15).map(|band| weighted(rows, band, table)).collect();
     let gross: i128 = bands.iter().map(|(long, short)| long + short).sum();
     let vertical: i128 = bands.iter().map(|(long, short)| long.min(short)).sum();
     let zone = |zone: usize| {
@@ -84,14 +86,13 @@ fn ladder(rows: &[Row]) -> InterestLadder {
     let (zones_2_3, net_2, net_3) = against(net_2, net_3);
     let (zones_1_3, net_1, net_3) = against(net_1, net_3);
     let residual = (net_1 + net_2 + net_3).abs();
-    // 10% of a match within a band (A.1, 12); the others by Table 2 (A.1, 13).
-    let disallowed = 10 * vertical
-        + 40 * zone_1
-        + 30 * zone_2
-        + 30 * zone_3
-        + 40 * zones_1_2
-        + 40 * zones_2_3
-        + 100 * zones_1_3;
+    // Of each match its per cent (A.1, 12 and 13).
+    let disallowed = table.vertical * vertical
+        + table.zones[0] * zone_1
+        + table.zones[1] * zone_2
+        + table.zones[2] * zone_3
+        + table.adjacent * (zones_1_2 + zones_2_3)
+        + table.zones_1_3 * zones_1_3;
     InterestLadder {
         refusal: Refusal::NONE,
         gross: figure(gross),
@@ -103,13 +104,14 @@ fn ladder(rows: &[Row]) -> InterestLadder {
         zones_2_3: figure(zones_2_3),
         zones_1_3: figure(zones_1_3),
         residual: figure(residual),
-        // All of the residual is charged (A.1, 8; C.2).
+        // All of the residual is charged, whatever the table (A.1, 8; C.2).
         charge: figure(disallowed + 100 * residual),
     }
 }
 
-/// The interest ladder of one currency of a book.
-pub fn interest_ladder(book: &[u8], group: usize) -> InterestLadder {
+/// The interest ladder of one currency of a book under a table. The group is looked at first,
+/// then the table, then the book.
+pub fn interest_ladder(book: &[u8], table: &[u8], group: usize) -> InterestLadder {
     let refused = |refusal| InterestLadder {
         refusal,
         ..InterestLadder::default()
@@ -117,16 +119,20 @@ pub fn interest_ladder(book: &[u8], group: usize) -> InterestLadder {
     if group >= GROUPS {
         return refused(Refusal::of(10));
     }
+    let table = match read_table(table) {
+        Ok(table) => table,
+        Err(refusal) => return refused(refusal),
+    };
     match read(book) {
-        Ok(rows) => ladder(&currency(&rows, group)),
+        Ok(rows) => ladder(&currency(&rows, group), &table),
         Err(refusal) => refused(refusal),
     }
 }
 
 /// The general charge: the ladders of all currencies, summed, in mils (A.1, 9).
-pub fn general(rows: &[Row]) -> i128 {
+pub fn general(rows: &[Row], table: &Table) -> i128 {
     (0..GROUPS)
-        .map(|group| i128::from(ladder(&currency(rows, group)).charge))
+        .map(|group| i128::from(ladder(&currency(rows, group), table).charge))
         .sum()
 }
 

@@ -1,8 +1,9 @@
 //! The report of a book: six charges and their total, in mils (Introduction I, 9 and
 //! 13 (b)), how many rows were taken for them (document 02, P4), and the two interest
-//! charges of each currency (document 02, P6).
+//! charges of each currency (document 02, P6), under a loaded table (document 02, P10).
 
 use crate::book::{read, Refusal, Row};
+use crate::table::{read_table, Table};
 use crate::{commodity, figure, interest, open, GROUPS};
 
 /// The refusal, the six charges, the total, the rows taken and the charges of each
@@ -25,11 +26,12 @@ pub struct Report {
     pub generals: [u64; GROUPS],
 }
 
-/// The report of the rows of an accepted book.
-fn report(rows: &[Row]) -> Report {
+/// The report of the rows of an accepted book, under an accepted table.
+fn report(rows: &[Row], table: &Table) -> Report {
+    let general = |rows: &[Row]| interest::general(rows, table);
     let charges = [
         interest::specific(rows),
-        interest::general(rows),
+        general(rows),
         open::equity_specific(rows),
         open::equity_general(rows),
         open::exchange(rows),
@@ -47,14 +49,15 @@ fn report(rows: &[Row]) -> Report {
         total: charges.iter().sum(),
         taken: rows.len() as u64,
         specifics: interest::of_each_currency(interest::specific, rows),
-        generals: interest::of_each_currency(interest::general, rows),
+        generals: interest::of_each_currency(general, rows),
     }
 }
 
-/// The report of a book.
-pub fn charge(book: &[u8]) -> Report {
-    match read(book) {
-        Ok(rows) => report(&rows),
+/// The report of a book under a table. A refused table is refused before the book.
+pub fn charge(book: &[u8], table: &[u8]) -> Report {
+    let both = read_table(table).and_then(|table| Ok((read(book)?, table)));
+    match both {
+        Ok((rows, table)) => report(&rows, &table),
         Err(refusal) => Report {
             refusal,
             ..Report::default()

@@ -3,7 +3,7 @@
 
 mod common;
 use common::*;
-use second::{charge, join, zones_used, Report, GROUPS};
+use second::{join, zones_used, Report, GROUPS};
 
 /// A list that is zero but in these groups.
 fn list(figures: &[(usize, u64)]) -> [u64; GROUPS] {

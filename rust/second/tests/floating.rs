@@ -3,7 +3,7 @@
 
 mod common;
 use common::*;
-use second::{charge, check, commodity_ladder, interest_ladder, join, Refusal, Report};
+use second::{check, commodity_ladder, join, Refusal, Report};
 
 /// A floating-rate note of currency 7.
 fn note(fixing: u16, maturity: u16, net: i64) -> Bytes {

@@ -2,7 +2,7 @@
 
 mod common;
 use common::*;
-use second::{charge, commodity_ladder, interest_ladder};
+use second::commodity_ladder;
 
 /// C.2 gives millions of dollars; here a unit is a thousand.
 const MILLION: i64 = 1_000;

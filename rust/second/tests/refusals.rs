@@ -2,7 +2,7 @@
 
 mod common;
 use common::*;
-use second::{charge, check, commodity_ladder, interest_ladder, join, Refusal, Report};
+use second::{check, commodity_ladder, join, Refusal, Report};
 
 /// A refusal of a row.
 fn at(number: u64, row: u64) -> Refusal {

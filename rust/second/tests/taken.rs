@@ -2,7 +2,7 @@
 
 mod common;
 use common::*;
-use second::{charge, join};
+use second::join;
 
 /// Four bodies of so many clean rows each.
 fn clean_rows(counts: [usize; 4]) -> Vec<Bytes> {

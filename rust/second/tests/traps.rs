@@ -2,7 +2,7 @@
 
 mod common;
 use common::*;
-use second::{charge, commodity_band, commodity_ladder, interest_band, interest_ladder};
+use second::{commodity_band, commodity_ladder, interest_band};
 use second::{join, Refusal};
 
 /// The last day of each band but the last, coupon 300 or more.

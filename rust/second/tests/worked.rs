@@ -2,7 +2,7 @@
 
 mod common;
 use common::*;
-use second::{charge, check, commodity_ladder, interest_band, interest_ladder, Refusal, Report};
+use second::{check, commodity_ladder, interest_band, Refusal, Report};
 
 #[test]
 fn equity_book() {

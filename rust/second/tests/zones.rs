@@ -2,7 +2,7 @@
 
 mod common;
 use common::*;
-use second::{interest_ladder, zones_used};
+use second::zones_used;
 
 #[test]
 fn zones_begin_at_bands_4_and_7() {

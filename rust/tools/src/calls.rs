@@ -1,8 +1,8 @@
-//! The five calls with the results of the C interface, by whichever calculation.
+//! The six calls with the results of the C interface, by whichever calculation.
 
 use market_risk::raw;
 
-/// A calculation that answers all five calls, writing every entry of each result.
+/// A calculation that answers all six calls, writing every entry of each result.
 pub trait Calls {
     /// What the calculation is called in a message. No two have the same name.
     fn name(&self) -> &'static str;
@@ -10,13 +10,15 @@ pub trait Calls {
     fn check(&self, book: &[u8], out: &mut [u64; 3]);
     /// Number, row, book; six charges; total; rows taken; 32 specific interest charges by
     /// currency; 32 general ones.
-    fn charge(&self, book: &[u8], out: &mut [u64; 75]);
+    fn charge(&self, book: &[u8], table: &[u8], out: &mut [u64; 75]);
     /// Number, row, book; gross, seven match sums, residual, charge.
-    fn interest_ladder(&self, book: &[u8], group: usize, out: &mut [u64; 13]);
+    fn interest_ladder(&self, book: &[u8], table: &[u8], group: usize, out: &mut [u64; 13]);
     /// Number, row, book; matches, carried, residual, charge.
     fn commodity_ladder(&self, book: &[u8], group: usize, out: &mut [u64; 7]);
     /// Number, row, book; length.
     fn join(&self, a: &[u8], b: &[u8], out: &mut [u8], result: &mut [u64; 4]);
+    /// Document 01's table.
+    fn table(&self, out: &mut [u8; 36]);
 }
 
 /// The proved library.
@@ -29,17 +31,20 @@ impl Calls for Proved {
     fn check(&self, book: &[u8], out: &mut [u64; 3]) {
         raw::check(book, out);
     }
-    fn charge(&self, book: &[u8], out: &mut [u64; 75]) {
-        raw::charge(book, out);
+    fn charge(&self, book: &[u8], table: &[u8], out: &mut [u64; 75]) {
+        raw::charge(book, table, out);
     }
-    fn interest_ladder(&self, book: &[u8], group: usize, out: &mut [u64; 13]) {
-        raw::interest_ladder(book, group, out);
+    fn interest_ladder(&self, book: &[u8], table: &[u8], group: usize, out: &mut [u64; 13]) {
+        raw::interest_ladder(book, table, group, out);
     }
     fn commodity_ladder(&self, book: &[u8], group: usize, out: &mut [u64; 7]) {
         raw::commodity_ladder(book, group, out);
     }
     fn join(&self, a: &[u8], b: &[u8], out: &mut [u8], result: &mut [u64; 4]) {
         raw::join(a, b, out, result);
+    }
+    fn table(&self, out: &mut [u8; 36]) {
+        raw::table(out);
     }
 }
 
@@ -55,12 +60,12 @@ impl Calls for Second {
         *out = second::check(book).entries();
     }
 
-    fn charge(&self, book: &[u8], out: &mut [u64; 75]) {
-        *out = second::charge(book).entries();
+    fn charge(&self, book: &[u8], table: &[u8], out: &mut [u64; 75]) {
+        *out = second::charge(book, table).entries();
     }
 
-    fn interest_ladder(&self, book: &[u8], group: usize, out: &mut [u64; 13]) {
-        *out = second::interest_ladder(book, group).entries();
+    fn interest_ladder(&self, book: &[u8], table: &[u8], group: usize, out: &mut [u64; 13]) {
+        *out = second::interest_ladder(book, table, group).entries();
     }
 
     fn commodity_ladder(&self, book: &[u8], group: usize, out: &mut [u64; 7]) {
@@ -69,5 +74,9 @@ impl Calls for Second {
 
     fn join(&self, a: &[u8], b: &[u8], out: &mut [u8], result: &mut [u64; 4]) {
         *result = second::join(a, b, out).entries();
+    }
+
+    fn table(&self, out: &mut [u8; 36]) {
+        *out = second::table();
     }
 }

@@ -4,7 +4,7 @@ pub use crate::files::print;
 use std::ffi::{OsStr, OsString};
 use std::path::Path;
 
-/// A refused book, a difference, or vectors that are not current.
+/// A refused book or table, a difference, or vectors that are not current.
 const NO: u8 = 1;
 
 /// A wrong command line, or a file that cannot be read or written.
@@ -71,8 +71,8 @@ pub fn overview(commands: &[Command]) -> String {
     text.push_str(
         "\nmarket-risk COMMAND --help tells of one. A file named - is standard input or output.\n\
          An output is written whole or not at all, and may not be one of the inputs.\n\
-         Exit status: 0 done; 1 a refused book, a difference, or vectors that are not current;\n\
-         2 a wrong command line, or a file that cannot be read or written.\n",
+         Exit status: 0 done; 1 a refused book or table, a difference, or vectors that are not\n\
+         current; 2 a wrong command line, or a file that cannot be read or written.\n",
     );
     text
 }
@@ -116,6 +116,14 @@ impl Args {
                 "{given} files given where {N} are wanted; see --help"
             ))
         })
+    }
+
+    /// One file or none.
+    pub fn file_if_any(&self) -> Result<Option<&Path>, Failure> {
+        match self.files[..] {
+            [] => Ok(None),
+            _ => self.files().map(|[file]| Some(file)),
+        }
     }
 
     /// The last value given for an option.
@@ -162,6 +170,9 @@ mod tests {
         assert_eq!(args.number("--seed"), Ok(Some(1000)));
         assert!(args.flag("--all"));
         assert!(args.files::<1>().is_err());
+        assert!(args.file_if_any().is_err());
+        assert_eq!(parse("--all").unwrap().file_if_any(), Ok(None));
+        assert_eq!(parse("a").unwrap().file_if_any(), Ok(Some(Path::new("a"))));
     }
 
     #[test]

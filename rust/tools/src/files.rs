@@ -40,6 +40,14 @@ pub fn read(path: impl AsRef<Path>) -> Result<Vec<u8>, Failure> {
     done.map_err(|error| usage(&format!("{}: {error}", input(path))))
 }
 
+/// Refuses standard input for two inputs, of which the second would find nothing.
+pub fn once(inputs: &[&Path]) -> Outcome {
+    match inputs.iter().filter(|path| standard(path)).count() {
+        0 | 1 => Ok(()),
+        _ => Err(usage("standard input can be read once only")),
+    }
+}
+
 /// Whether bytes begin with a line of text that has a comma. No book does: eight
 /// printable bytes are counts of 8,224 rows or more, and 4,000 are the most.
 fn looks_like_csv(bytes: &[u8]) -> bool {

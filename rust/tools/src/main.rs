@@ -11,6 +11,7 @@ mod ladder;
 mod pack;
 mod progress;
 mod report;
+mod table;
 mod text;
 mod unpack;
 mod vectors;
@@ -21,12 +22,13 @@ use std::io::Write;
 use std::process::ExitCode;
 
 /// The subcommands, in the order of the help text.
-const COMMANDS: [Command; 8] = [
+const COMMANDS: [Command; 9] = [
     pack::COMMAND,
     unpack::COMMAND,
     report::COMMAND,
     ladder::COMMAND,
     join::COMMAND,
+    table::COMMAND,
     compare::COMMAND,
     bench::COMMAND,
     vectors::COMMAND,

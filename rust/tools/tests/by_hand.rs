@@ -87,7 +87,8 @@ fn is_true(line: &Line) -> bool {
 /// The bands, the steps and the last lines of a printed ladder, without their titles.
 fn parts(text: &str) -> [Vec<&str>; 3] {
     let parts: Vec<&str> = text.split("\n\n").collect();
-    let [_, bands, steps, lines] = parts[..] else {
+    // A loaded table is told of above the title.
+    let [.., bands, steps, lines] = parts[..] else {
         panic!("not three parts below a title: {text}");
     };
     [(bands, 1), (steps, 1), (lines, 0)].map(|(part, titles)| part.lines().skip(titles).collect())
@@ -109,7 +110,7 @@ fn last(lines: &[&str], name: &str) -> i128 {
 #[test]
 fn currencies_add_up_as_printed() {
     let ladders = ladders("currency");
-    assert_eq!(ladders.len(), 17);
+    assert_eq!(ladders.len(), 20);
     for (name, text) in ladders {
         let [bands, steps, lines] = parts(&text);
         let lines: Vec<Line> = lines.iter().map(|text| line(text)).collect();
@@ -181,7 +182,7 @@ fn commodities_add_up_as_printed() {
 }
 
 /// The last lines of some samples, worked by hand in samples/README.md.
-const BY_HAND: [(&str, [&str; 5]); 4] = [
+const BY_HAND: [(&str, [&str; 5]); 5] = [
     (
         "keyed.currency-7",
         [
@@ -200,6 +201,16 @@ const BY_HAND: [(&str, [&str; 5]); 4] = [
             "residual 7.0 = 479.5 weighted short - 472.5 weighted long",
             "charge 172.350 >= 7.0 residual",
             "2 x charge 344.700 <= 952.0 gross + 7.0 residual",
+        ],
+    ),
+    (
+        "steps.table.currency-8",
+        [
+            "gross 1,077.0 = 2 x 537.0 matched + 3.0 residual",
+            "gross 1,077.0 = 540.0 weighted long + 537.0 weighted short",
+            "residual 3.0 = 540.0 weighted long - 537.0 weighted short",
+            "charge 282.400 >= 3.0 residual",
+            "2 x charge 564.800 <= 1,077.0 gross + 3.0 residual",
         ],
     ),
     (

@@ -61,6 +61,8 @@ fn lost_output_is_an_error() {
         "report x.book",
         "report x.book --currencies",
         "ladder x.book --currency 7",
+        "table",
+        "table --bytes",
         "compare --count 1",
         "bench --rounds 1",
         "--help",
@@ -106,6 +108,8 @@ fn an_output_over_an_input_is_refused() {
         "join x.book y.book x.book",
         "join x.book y.book y.book",
         "join x.book x.book x.book",
+        "table x.csv --out x.csv",
+        "table soft.csv --out x.csv",
     ] {
         let told = error(2, tool(&folder, words).output().unwrap());
         assert!(told.contains("are one file"), "{words}: {told}");
@@ -180,6 +184,11 @@ fn names_may_be_any_bytes() {
     File::create(std::path::Path::new(&folder).join(name)).unwrap();
     let run = |command: &str| tool(&folder, command).arg(name).output().unwrap();
     assert!(error(1, run("report")).contains("caf\u{fffd}.book: refused 1"));
+    let refused = "caf\u{fffd}.book: refused 18";
+    assert!(error(1, run("table")).contains(refused));
+    assert!(error(1, run("report x.book --table")).contains(refused));
+    assert!(run("table --bytes --out").status.success());
+    assert!(run("report x.book --table").status.success());
     assert!(run("pack x.csv").status.success());
     assert!(run("report").status.success());
     assert!(error(2, run("report x.book --all")).contains("no option '--all'"));

@@ -1,12 +1,25 @@
-//! The header's promise that a null pointer with length 0 is a file of no bytes.
+//! The header's promise that a null pointer with length 0 is a file or table of no bytes.
 
 use market_risk as _; // links the proved library
 use std::ptr::{null, null_mut};
 
 extern "C" {
     fn market_risk_check(book: *const u8, len: usize, out: *mut u64);
-    fn market_risk_charge(book: *const u8, len: usize, out: *mut u64);
-    fn market_risk_interest_ladder(book: *const u8, len: usize, group: usize, out: *mut u64);
+    fn market_risk_charge(
+        book: *const u8,
+        len: usize,
+        table: *const u8,
+        table_len: usize,
+        out: *mut u64,
+    );
+    fn market_risk_interest_ladder(
+        book: *const u8,
+        len: usize,
+        table: *const u8,
+        table_len: usize,
+        group: usize,
+        out: *mut u64,
+    );
     fn market_risk_commodity_ladder(book: *const u8, len: usize, group: usize, out: *mut u64);
     fn market_risk_join(
         a: *const u8,
@@ -25,28 +38,58 @@ const MARKED: [u64; 75] = [u64::MAX; 75];
 /// A book without rows.
 const EMPTY: [u8; 8] = [0; 8];
 
+/// A table of zeros, which is accepted.
+const TABLE: [u8; 36] = [0; 36];
+
+/// A call over null pointers, with the number of its entries.
+type Call<'a> = (usize, &'a dyn Fn(*mut u64));
+
+/// Each call must be refused with a number and write its own entries alone.
+fn refused_with(number: u64, calls: &[Call]) {
+    for (entries, call) in calls {
+        let mut out = MARKED;
+        call(out.as_mut_ptr());
+        assert_eq!(out[0], number, "{entries} entries");
+        assert!(out[1..*entries].iter().all(|entry| *entry == 0));
+        assert_eq!(out[*entries..], MARKED[*entries..]);
+    }
+}
+
 /// Catches a call that reads through the pointer, or takes null for something other than
 /// the file of no bytes, which is refused with 1.
 #[test]
 fn null_with_length_0_is_a_file_of_no_bytes() {
-    let calls: [(usize, &dyn Fn(*mut u64)); 4] = [
+    let (table, length) = (TABLE.as_ptr(), TABLE.len());
+    let calls: [Call; 4] = [
         // SAFETY, here and below: the header allows null with length 0, and every result
         // has room for its entries.
         (3, &|out| unsafe { market_risk_check(null(), 0, out) }),
-        (75, &|out| unsafe { market_risk_charge(null(), 0, out) }),
+        (75, &|out| unsafe {
+            market_risk_charge(null(), 0, table, length, out)
+        }),
         (13, &|out| unsafe {
-            market_risk_interest_ladder(null(), 0, 7, out)
+            market_risk_interest_ladder(null(), 0, table, length, 7, out)
         }),
         (7, &|out| unsafe {
             market_risk_commodity_ladder(null(), 0, 7, out)
         }),
     ];
-    for (entries, call) in calls {
-        let mut out = MARKED;
-        call(out.as_mut_ptr());
-        assert_eq!(out[0], 1, "{entries} entries");
-        assert!(out[1..entries].iter().all(|entry| *entry == 0));
-        assert_eq!(out[entries..], MARKED[entries..]);
+    refused_with(1, &calls);
+}
+
+/// The same of a table, which is refused with 18, whether the book is null too or not.
+#[test]
+fn null_with_length_0_is_a_table_of_no_bytes() {
+    for (book, length) in [(null(), 0), (EMPTY.as_ptr(), EMPTY.len())] {
+        let calls: [Call; 2] = [
+            (75, &|out| unsafe {
+                market_risk_charge(book, length, null(), 0, out)
+            }),
+            (13, &|out| unsafe {
+                market_risk_interest_ladder(book, length, null(), 0, 7, out)
+            }),
+        ];
+        refused_with(18, &calls);
     }
 }
 

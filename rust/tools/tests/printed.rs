@@ -2,110 +2,30 @@
 
 mod again;
 mod common;
+mod stored;
 
-use books::{csv, Book};
-use common::{packed, prints, sample, temporary};
+use common::{packed, prints, temporary};
 use std::collections::BTreeSet;
 use std::fs;
-
-/// The folder of the samples.
-fn samples() -> String {
-    format!("{}/../../samples", env!("CARGO_MANIFEST_DIR"))
-}
-
-/// The names of the files of a folder that end so, without their end.
-fn names(folder: &str, end: &str) -> BTreeSet<String> {
-    let files = fs::read_dir(folder).unwrap();
-    let files = files.map(|file| file.unwrap().file_name().into_string().unwrap());
-    files
-        .filter_map(|name| Some(name.strip_suffix(end)?.to_string()))
-        .collect()
-}
-
-/// A sample as rows.
-fn rows(name: &str) -> Book {
-    let text = fs::read_to_string(sample(name)).unwrap();
-    csv::parse(&text).unwrap().book
-}
-
-/// What is printed of a sample: its report, this with the charges of the currencies, or the
-/// ladder of one group.
-#[derive(Clone, Copy)]
-enum Print {
-    Report,
-    Currencies,
-    Currency(usize),
-    Commodity(usize),
-}
-
-/// All prints of a sample: the report, the currencies where there are several, and the ladder
-/// of every group that it has, or of group 0 if it has no rows at all.
-fn prints_of(book: &Book) -> Vec<Print> {
-    let groups = |class: usize| {
-        let groups: BTreeSet<usize> = book.classes[class]
-            .iter()
-            .map(|row| usize::from(row.group))
-            .collect();
-        match book.rows() {
-            0 => BTreeSet::from([0]),
-            _ => groups,
-        }
-    };
-    let mut all = vec![Print::Report];
-    all.extend((groups(0).len() > 1).then_some(Print::Currencies));
-    all.extend(groups(0).into_iter().map(Print::Currency));
-    all.extend(groups(3).into_iter().map(Print::Commodity));
-    all
-}
-
-/// The name of the stored text of a print.
-fn stored_name(name: &str, print: Print) -> String {
-    match print {
-        Print::Report => format!("{name}.report"),
-        Print::Currencies => format!("{name}.currencies"),
-        Print::Currency(group) => format!("{name}.currency-{group}"),
-        Print::Commodity(group) => format!("{name}.commodity-{group}"),
-    }
-}
-
-/// Every sample with its rows, and each of its prints with the stored text.
-fn all() -> Vec<(String, Book, Print, String)> {
-    let mut all = Vec::new();
-    for name in names(&samples(), ".csv") {
-        let book = rows(&name);
-        for print in prints_of(&book) {
-            let path = format!("{}/expected/{}.txt", samples(), stored_name(&name, print));
-            let text = fs::read_to_string(&path).unwrap_or_else(|_| panic!("{path} is missing"));
-            all.push((name.clone(), book.clone(), print, text));
-        }
-    }
-    all
-}
+use stored::{all, names, samples, Print, Stored};
 
 /// Catches a stored text that no sample has, and a sample that is not looked at.
 #[test]
 fn every_print_is_stored_and_nothing_else() {
-    let all = all();
-    let wanted: BTreeSet<String> = all
-        .iter()
-        .map(|(name, _, print, _)| stored_name(name, *print))
-        .collect();
+    let wanted: BTreeSet<String> = all().iter().map(Stored::name).collect();
     assert_eq!(names(&format!("{}/expected", samples()), ".txt"), wanted);
-    assert_eq!(wanted.len(), 38);
+    assert_eq!(wanted.len(), 43);
+    assert_eq!(
+        names(&samples(), ".table"),
+        BTreeSet::from(["steps".into()])
+    );
 }
 
 /// Catches any change of what is printed: a rate halved, a per cent, a weight, a figure.
 #[test]
 fn the_command_prints_the_stored_texts() {
-    for (name, _, print, text) in all() {
-        let book = packed(&name, &stored_name(&name, print));
-        let printed = match print {
-            Print::Report => prints(&["report", &book]),
-            Print::Currencies => prints(&["report", &book, "--currencies"]),
-            Print::Currency(n) => prints(&["ladder", &book, "--currency", &n.to_string()]),
-            Print::Commodity(n) => prints(&["ladder", &book, "--commodity", &n.to_string()]),
-        };
-        assert_eq!(printed, text, "{}", stored_name(&name, print));
+    for stored in all() {
+        assert_eq!(stored.printed(), stored.text(), "{}", stored.name());
     }
 }
 
@@ -114,20 +34,14 @@ fn the_command_prints_the_stored_texts() {
 #[test]
 fn every_line_of_the_stored_texts_is_calculated_again() {
     let squeezed = |line: &str| line.split_whitespace().collect::<Vec<_>>().join(" ");
-    for (name, book, print, text) in all() {
-        let again = match print {
-            Print::Report => again::report(&book.encode().unwrap()),
-            Print::Currencies => again::currencies(&book),
-            Print::Currency(group) => again::interest(&book, group),
-            Print::Commodity(group) => again::commodity(&book, group),
-        };
-        let stored: Vec<String> = text.lines().map(squeezed).collect();
-        assert_eq!(stored, again, "{}", stored_name(&name, print));
+    for stored in all() {
+        let lines: Vec<String> = stored.text().lines().map(squeezed).collect();
+        assert_eq!(lines, stored.again(), "{}", stored.name());
     }
 }
 
 /// The totals and charges, worked by hand in document 01 and in samples/README.md.
-const BY_HAND: [(&str, &str); 29] = [
+const BY_HAND: [(&str, &str); 34] = [
     ("empty.report", "0.000"),
     ("swap.report", "4,793,392.500"),
     ("swap.currency-7", "4,580,112.500"),
@@ -157,6 +71,11 @@ const BY_HAND: [(&str, &str); 29] = [
     ("treasury.currencies", "24,005.000"),
     ("floating.currency-7", "38,140.000"),
     ("floating.report", "76,140.000"),
+    ("steps.table.currency-7", "921.900"),
+    ("steps.table.currency-8", "282.400"),
+    ("steps.table.currency-9", "7,823.000"),
+    ("steps.table.currencies", "19,328.800"),
+    ("steps.table.report", "22,604.800"),
 ];
 
 /// Catches a stored charge that both calculations would have wrong.
@@ -164,11 +83,9 @@ const BY_HAND: [(&str, &str); 29] = [
 fn the_charges_are_those_worked_by_hand() {
     let all = all();
     for (name, expected) in BY_HAND {
-        let found = all
-            .iter()
-            .find(|(of, _, print, _)| stored_name(of, *print) == name);
-        let (_, _, print, text) = found.unwrap();
-        let title = match print {
+        let stored = all.iter().find(|stored| stored.name() == name).unwrap();
+        let text = stored.text();
+        let title = match stored.print {
             Print::Report => "total",
             Print::Currencies => "all",
             Print::Currency(_) | Print::Commodity(_) => "charge",
@@ -181,7 +98,7 @@ fn the_charges_are_those_worked_by_hand() {
 
 /// The charges of each currency of two samples, in whole currency units unless it is shown,
 /// worked by hand in samples/README.md: specific, general, together.
-const CURRENCIES_BY_HAND: [(&str, &[&str]); 2] = [
+const CURRENCIES_BY_HAND: [(&str, &[&str]); 3] = [
     (
         "treasury",
         &[
@@ -201,6 +118,15 @@ const CURRENCIES_BY_HAND: [(&str, &[&str]); 2] = [
             "all 10,301.500 7,023.500 17,325",
         ],
     ),
+    (
+        "steps.table",
+        &[
+            "7 0 921.900 921.900",
+            "8 701.500 282.400 983.900",
+            "9 9,600 7,823 17,423",
+            "all 10,301.500 9,027.300 19,328.800",
+        ],
+    ),
 ];
 
 /// Catches a stored charge of a currency that both calculations would have wrong, and a
@@ -209,16 +135,15 @@ const CURRENCIES_BY_HAND: [(&str, &[&str]); 2] = [
 fn the_currencies_are_those_worked_by_hand() {
     let all = all();
     let stored = |name: String| {
-        let found = all
-            .iter()
-            .find(|(of, _, print, _)| stored_name(of, *print) == name);
-        found.unwrap().3.clone()
+        let found = all.iter().find(|stored| stored.name() == name);
+        found.unwrap().text()
     };
     for (name, expected) in CURRENCIES_BY_HAND {
         let text = stored(format!("{name}.currencies"));
-        let (report, table) = text.split_once("\n\n").unwrap();
+        let (report, table) = text.rsplit_once("\n\n").unwrap();
         assert_eq!(format!("{report}\n"), stored(format!("{name}.report")));
-        assert_eq!(report.lines().count(), 7);
+        let above = if name.ends_with(".table") { 4 } else { 0 };
+        assert_eq!(report.lines().count(), above + 7);
         let short = |line: &str| {
             let cells = line.split_whitespace();
             let cells: Vec<&str> = cells.map(|cell| cell.trim_end_matches(".000")).collect();

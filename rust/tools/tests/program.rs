@@ -38,7 +38,7 @@ fn writes(input: &[u8]) -> Vec<String> {
 
 /// The text of a book by the second calculation.
 fn text(input: &[u8]) -> String {
-    let report = second::charge(input);
+    let report = second::charge(input, &second::table());
     if !report.refusal.accepted() {
         return format!(
             "refused {} row {}\n",

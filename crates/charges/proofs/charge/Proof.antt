@@ -1,156 +1,34 @@
--- `charges::charge` meets its contract: refused, or the six charges of the sums that one pass took, those of interest by currency too.
-use mathlib.Core.Path.{_≡_, refl, sym, ap, _∙_}
-use mathlib.Core.List.{List}
-use Prim.Native.Nat.{ℕ}
-use native.Mathlib.Omega.{arith}
+-- `charges::charge` meets its contract: a table that is refused, or the report by the one that was loaded.
+use mathlib.Core.Path.{ap, _∙_}
 use borrow.Author.Needs.{needs}
-use Rattle.sums.specs.Sums.{sumOf}
-use Rattle.book.specs.Accepted.{Accepted}
-use Rattle.book.proofs.Acceptance.{accepted}
-use Rattle.ladder.specs.Table.{standardTable}
-use Rattle.ladder.proofs.AddsUp.{standard-accepted}
-use Rattle.charges.specs.Charges.{specificCharge}
-use Rattle.charges.specs.Report.{classRows}
-use Rattle.charges.proofs.Costs.{Costs, costs}
-use Rattle.charges.proofs.Reporting.{Lists, Six, taken-number, sums-all, specifics-total, generals-total, total-fits, report-refused, six-fit, report-charged}
+use Rattle.ladder.specs.declared.Table.{Table}
+use Rattle.table.proofs.Accepting.{loaded-number, not-refused, loaded-table, loaded-accepted}
+use Rattle.charges.specs.Report.{refusedReport}
+use Rattle.charges.specs.Inner.Answers.{reportBy}
+use Rattle.charges.proofs.Reporting.{table-refused, table-loaded}
 use Rattle.charges.proofs.charge.Statement.{statement}
 use Rattle.charges.proofs.charge.Tie as tie
 
-take-book-requires : tie.Need-take-book-requires
-take-book-requires c κs = record { no-longs = refl; no-shorts = refl; no-specifics = refl; no-rows = refl }
-
--- the book passed, and what its tables cost
-module _ (c : tie.Else1) where
-  abbrev s : List ℕ
-  s = c .before .before .before .before .before .before .before .before .before .args .book .now
-
-  of : Accepted s
-  of = accepted s (sym (taken-number standardTable s _ (c .before .before .before .take-book .ensures .is-taken)) ∙ c .if1 .left)
-
-  cost : Costs standardTable s (c .before .before .before .take-book .last .1 .0) (c .before .before .before .take-book .last .1 .1 .0)
-      (c .before .before .before .take-book .last .1 .1 .1 .0) (c .before .before .before .take-book .last .1 .1 .1 .1 .0)
-  cost =
-      let pass = c .before .before .before .take-book .ensures in
-      costs standardTable s _ _ _ _ of (sums-all standardTable s _ (pass .is-taken) (c .if1 .left) (pass .sums))
-
 returns : tie.Need-returns
-returns c = report-refused standardTable _ _ (c .before .before .before .before .take-book .ensures .is-taken) _ (c .refused-report .ensures) (c .before .if1 .taken)
+returns c =
+    let wrong = c .before .before in
+    let load = wrong .before .before in
+    c .refused-report .ensures
+    ∙ ap refusedReport (c .before .refused .ensures)
+    ∙ table-refused _ _ _ (loaded-number _ _ (load .load .ensures)) (wrong .if1 .taken)
 
-interest-generals-requires : tie.Need-interest-generals-requires
-interest-generals-requires c κs =
-    let p = cost (c .before .before .before .before .before) in
-    ((p .longs-sized, p .shorts-sized), (p .interest-fits, p .currency-unused))
-
--- the lists, and what they come to
-module _ (c : tie.After-group-list2) where
-  abbrev at-generals : tie.After-interest-generals
-  at-generals = c .before .before
-
-  abbrev at-specifics : tie.After-group-list
-  at-specifics = at-generals .before .before .before .before
-
-  abbrev passed : tie.Else1
-  passed = at-specifics .before .before
-
-  lists : Lists standardTable (s passed) (at-specifics .group-list .result) (at-generals .interest-generals .result)
-  lists =
-      record {
-        specifics-are = at-specifics .group-list .ensures ∙ cost passed .specifics-are;
-        generals-are = at-generals .interest-generals .ensures ∙ cost passed .generals-are;
-      }
-
-  equity-total : sumOf (λ entry. entry) (c .group-list2 .result) ≡ specificCharge 2 (classRows (s passed) 2)
-  equity-total = ap (sumOf (λ entry. entry)) (c .group-list2 .ensures) ∙ cost passed .equity-specific-is
-
-group-total-requires : tie.Need-group-total-requires
-group-total-requires c κs =
-    let e = passed c in
-    omega (arith, specifics-total standardTable (s e) _ _ (of e) (lists c), total-fits standardTable standard-accepted (s e) (of e))
-
-group-total-requires-2 : tie.Need-group-total-requires-2
-group-total-requires-2 c κs =
-    let e = passed (c .before) in
-    omega (arith, generals-total standardTable (s e) _ _ (of e) (lists (c .before)), total-fits standardTable standard-accepted (s e) (of e))
-
-group-total-requires-3 : tie.Need-group-total-requires-3
-group-total-requires-3 c κs =
-    let e = passed (c .before .before) in
-    omega (arith, equity-total (c .before .before), total-fits standardTable standard-accepted (s e) (of e))
-
-equity-general-requires : tie.Need-equity-general-requires
-equity-general-requires c κs = let p = cost (passed (c .before .before .before .before .before)) in (p .longs-sized, p .shorts-sized, p .equity-fits)
-
-exchange-general-requires : tie.Need-exchange-general-requires
-exchange-general-requires c κs =
-    let p = cost (passed (c .before .before .before .before .before .before .before .before)) in
-    (p .longs-sized, p .shorts-sized, p .exchange-fits)
-
-commodity-general-requires : tie.Need-commodity-general-requires
-commodity-general-requires c κs =
-    let p = cost (passed (c .before .before .before .before .before .before .before .before .before .before .before .before)) in
-    ((p .longs-sized, p .shorts-sized), (p .commodity-fits, p .commodity-unused))
-
--- the six charges
-module _ (c : tie.After-commodity-general) where
-  abbrev at-exchange : tie.After-exchange-general
-  at-exchange = c .before .before .before .before
-
-  abbrev at-equity : tie.After-equity-general
-  at-equity = at-exchange .before .before .before
-
-  abbrev at-third : tie.After-group-total3
-  at-third = at-equity .before .before .before
-
-  abbrev at-second : tie.After-group-total2
-  at-second = at-third .before
-
-  abbrev at-first : tie.After-group-total
-  at-first = at-second .before
-
-  abbrev listed : tie.After-group-list2
-  listed = at-first .before
-
-  abbrev at : tie.Else1
-  at = passed listed
-
-  six : Six standardTable (s at) (at-first .group-total .result) (at-second .group-total2 .result) (at-third .group-total3 .result)
-      (at-equity .equity-general .result) (at-exchange .exchange-general .result) (c .commodity-general .result)
-  six =
-      record {
-        interest-specific = at-first .group-total .ensures ∙ specifics-total standardTable (s at) _ _ (of at) (lists listed);
-        interest-general = at-second .group-total2 .ensures ∙ generals-total standardTable (s at) _ _ (of at) (lists listed);
-        equity-specific = at-third .group-total3 .ensures ∙ equity-total listed;
-        equity-general = at-equity .equity-general .ensures ∙ cost at .equity-is;
-        exchange = at-exchange .exchange-general .ensures ∙ cost at .exchange-is;
-        commodity = c .commodity-general .ensures ∙ cost at .commodity-is;
-      }
-
-charged-report-requires : tie.Need-charged-report-requires
-charged-report-requires c κs =
-    let e = at c in
-    six-fit standardTable _ _ (e .before .before .before .take-book .ensures .is-taken) (e .if1 .left) _ _ _ _ _ _ (six c) standard-accepted (of e)
+charge-by-requires : tie.Need-charge-by-requires
+charge-by-requires c κs =
+    let load = c .before .before .before in
+    loaded-accepted _ _ (load .load .ensures) (c .before .if1 .left)
 
 returns-2 : tie.Need-returns-2
 returns-2 c =
-    let e = at (c .before) in
-    report-charged standardTable _ _ (e .before .before .before .take-book .ensures .is-taken) (e .if1 .left) _ _ _ _ _ _ (six (c .before)) _ _ (lists (listed (c .before)))
-    _ (c .charged-report .ensures)
+    let at = c .before .before in
+    let load = at .before .before in
+    c .charge-by .ensures
+    ∙ ap (λ (table : Table). reportBy table (load .before .before .before .args .book .now)) (loaded-table _ _ (load .load .ensures) (at .if1 .left))
+    ∙ table-loaded _ _ (not-refused _ _ (load .load .ensures) (at .if1 .left))
 
 pub charge-spec : {M : Type 1} → statement M
-charge-spec =
-    tie.close
-    (tie.spec
-    take-book-requires
-    (λ c. search needs)
-    returns
-    (λ c. search needs)
-    interest-generals-requires
-    (λ c. search needs)
-    group-total-requires
-    group-total-requires-2
-    group-total-requires-3
-    equity-general-requires
-    exchange-general-requires
-    commodity-general-requires
-    charged-report-requires
-    returns-2)
+charge-spec = tie.close (tie.spec (λ c. search needs) (λ c. search needs) (λ c. search needs) returns charge-by-requires returns-2)

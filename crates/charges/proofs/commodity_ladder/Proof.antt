@@ -1,5 +1,5 @@
 -- `charges::commodity_ladder` meets its contract: refused, or the figures of the group's rows in the class's part of the book.
-use mathlib.Core.Path.{_≡_, refl, _∙_}
+use mathlib.Core.Path.{_≡_, refl, sym, _∙_}
 use mathlib.Core.List.{List}
 use Prim.Native.Nat.{ℕ}
 use native.Mathlib.Omega.{arith}
@@ -11,11 +11,11 @@ use Rattle.ladder.specs.Commodity.{commodityBandCount}
 use Rattle.ladder.specs.Rows.{ladderOf}
 use Rattle.ladder.proofs.Agreeing.{Agree}
 use Rattle.charges.specs.Charges.{reading, commodityFiguresOf}
-use Rattle.charges.specs.Report.{noCommodity, classRows, commodityLadderOf}
+use Rattle.charges.specs.Report.{before, noCommodity, classRows, commodityLadderOf}
 use Rattle.charges.specs.Inner.Ladders.{CleanPart}
 use Rattle.charges.specs.Inner.Tables.{bandsFrom}
 use Rattle.charges.proofs.Figures.{group-agree, group-sized, commodity-from, ladder-fits}
-use Rattle.charges.proofs.Reporting.{ladder-refused, ladder-given, read-part}
+use Rattle.charges.proofs.Reading.{ladder-refused, ladder-given, read-part, same-commodity}
 use Rattle.charges.proofs.commodity_ladder.Statement.{statement}
 use Rattle.charges.proofs.commodity_ladder.Tie as tie
 
@@ -32,13 +32,13 @@ module _ (c : tie.After-body) where
       rw part-is (read-part _ _ (else .before .before .before .before .ladder-checked .ensures .read (else .if1 .left)) 4 (omega arith) (omega arith))
 
 returns : tie.Need-returns
-unfolding commodityLadderOf
+unfolding commodityLadderOf before
 returns c =
     let at-read = c .before .before .before .before .before in
     let start = at-read .before .before in
     let figures = commodityFiguresOf (start .args .group) (classRows (start .args .book .now) 4) in
-    let answer = ladder-refused _ _ _ (at-read .ladder-checked .ensures) figures noCommodity (c .before .if1 .taken) in
-    cc
+    let answer = ladder-refused _ 0 _ _ (at-read .ladder-checked .ensures) figures noCommodity (c .before .if1 .taken) in
+    same-commodity (answer .0) (c .no-commodity .ensures ∙ sym (answer .1))
 
 tally-requires : tie.Need-tally-requires
 tally-requires c κs = (part-clean (c .before .before), (refl, refl))
@@ -68,7 +68,7 @@ commodity-figures-requires c κs =
     (omega (arith, longs-sized at), omega (arith, shorts-sized at), ladder-fits (longs at) (shorts at) 0 _ _ 4 commodityBandCount (agree at) (clean .clean) (clean .few))
 
 returns-2 : tie.Need-returns-2
-unfolding commodityLadderOf
+unfolding commodityLadderOf before
 returns-2 c =
     let at = c .before .before .before in
     let body = at .before .before .before in
@@ -76,9 +76,9 @@ returns-2 c =
     let at-read = else .before .before .before .before in
     let start = at-read .before .before in
     let figures = commodityFiguresOf (start .args .group) in
-    let answer = ladder-given _ _ _ (at-read .ladder-checked .ensures) figures noCommodity 4 (omega arith) (omega arith) _ (else .if1 .left) (part-is body) in
+    let answer = ladder-given _ 0 _ _ (at-read .ladder-checked .ensures) figures noCommodity 4 (omega arith) (omega arith) _ (else .if1 .left) (part-is body) in
     let of-rows = c .commodity-figures .ensures ∙ commodity-from (longs at) (shorts at) 0 _ _ (agree at) in
-    cc
+    same-commodity (answer .0) (of-rows ∙ sym (answer .1))
 
 pub commodity-ladder-spec : {M : Type 1} → statement M
 commodity-ladder-spec =

@@ -8,7 +8,9 @@ use lib.ListN.{getD, take}
 use Rattle.sums.specs.Sums.{span}
 use Rattle.book.specs.Refusals.{mostRows, mostAmount}
 use Rattle.ladder.specs.Position.{Bands, gross, total}
-use Rattle.ladder.specs.Table.{Table, weightIn}
+use Rattle.ladder.specs.declared.Percents.{Percents}
+use Rattle.ladder.specs.declared.Table.{Table}
+use Rattle.ladder.specs.Table.{weightIn}
 use Rattle.ladder.specs.Commodity.{commodityBandCount}
 use Rattle.ladder.specs.Inner.Steps.{bandCount}
 use Rattle.charges.specs.Charges.{groups}
@@ -18,6 +20,10 @@ pub use Rattle.charges.specs.declared.tables.Used.{Used}
 -- no class's gross is above this: 4,000 rows of the largest amount; nor its specific charge above 8% of it
 abbrev pub mostGross : ℕ
 mostGross = mostAmount * mostRows
+
+-- a ladder table of weights and per cents
+abbrev pub tableWith : List ℕ → Percents → Table
+tableWith weights percents = record { weights = weights; percents = percents }
 
 -- the bands from a slot on
 abbrev pub bandsFrom : List ℕ → List ℕ → ℕ → Bands

@@ -4,7 +4,7 @@ use mathlib.Core.Path.{_≡_}
 use mathlib.Core.List.{List}
 use lib.ListN.{getD}
 use Rattle.ladder.specs.Position.{Position, Bands, _⊕_, gross, matched, net, total, vertical, bandNets}
-use Rattle.ladder.specs.Table.{Percents}
+use Rattle.ladder.specs.Table.{Percents, Table, AcceptedPercents, mostWeight, weightIn}
 use Rattle.ladder.specs.Interest.{Ladder, LadderStep, Matches, InterestFigures, against, left, together, crossing, allBands, zones, interestFigures}
 use Rattle.ladder.specs.Commodity.{CommodityFigures, commodityFigures, commodityBands}
 pub use Rattle.ladder.specs.declared.positions.PositionStep.{PositionStep}
@@ -20,6 +20,11 @@ limit = 10000000000000000
 -- no commodity's gross is above this: 4,000 rows of 1,000,000,000
 abbrev pub commodityLimit : ℕ
 commodityLimit = 4000000000000
+
+-- a table of such weights, and per cents in their order
+pub record TableBounds (table : Table) : Type 0 where
+  pub weights : (band : ℕ) → weightIn table band ≤ mostWeight
+  pub percents : AcceptedPercents (table .percents)
 
 -- the bands of the interest ladder
 abbrev pub bandCount : ℕ

@@ -5,7 +5,6 @@ use Prim.Native.Nat.{ℕ}
 use native.Mathlib.Omega.{arith}
 use borrow.Author.Needs.{needs}
 use lib.ListN.{length, replicate, length-append}
-use Rattle.ladder.specs.Table.{standardTable}
 use Rattle.layout.specs.Written.{written}
 use Rattle.layout.proofs.Writing.{written-length, written-more, written-whole}
 use Rattle.charges.specs.declared.Report.{Report}
@@ -20,7 +19,7 @@ figures report = refusalEntries (report .refusal) ++ (reportFigures report ++ (r
 
 -- the report that the library gave has its 32 entries in each list
 sized : (c : tie.After-charge) → ListsSized (c .charge .result)
-sized c = rw (c .charge .ensures) (lists-sized standardTable _)
+sized c = rw (c .charge .ensures) (lists-sized _ _)
 
 -- the output stays as long as it is
 first-sized : (report : Report) {out1 : List ℕ} → out1 ≡ written (replicate 75 0) 0 (figures report) → length out1 ≡ 75

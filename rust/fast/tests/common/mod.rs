@@ -1,27 +1,35 @@
 //! Results of the fast calls beside those of the second calculation.
+#![allow(dead_code)]
 
 /// What a result holds before a call, which must overwrite every entry.
 const OLD: u64 = 0x5555;
 
-/// Compares the four calls on one book.
+/// Compares the four calls on one book, under document 01's table.
 pub fn compare(book: &[u8], group: usize) {
-    let (mut check, mut charge) = ([OLD; 3], [OLD; 75]);
-    let (mut interest, mut commodity) = ([OLD; 13], [OLD; 7]);
+    let (mut check, mut commodity) = ([OLD; 3], [OLD; 7]);
     fast::check(book, &mut check);
-    fast::charge(book, &mut charge);
-    fast::interest_ladder(book, group, &mut interest);
     fast::commodity_ladder(book, group, &mut commodity);
     assert_eq!(check, second::check(book).entries(), "{book:?}");
-    assert_eq!(charge, second::charge(book).entries(), "{book:?}");
-    let ladder = second::interest_ladder(book, group);
-    assert_eq!(interest, ladder.entries(), "{book:?}");
     let ladder = second::commodity_ladder(book, group);
     assert_eq!(commodity, ladder.entries(), "{book:?}");
+    compare_under(&second::table(), book, group);
+}
+
+/// Compares the two calls that take a table, and gives the number of the charge's refusal.
+pub fn compare_under(table: &[u8], book: &[u8], group: usize) -> u64 {
+    let (mut charge, mut interest) = ([OLD; 75], [OLD; 13]);
+    fast::charge(book, table, &mut charge);
+    fast::interest_ladder(book, table, group, &mut interest);
+    let report = second::charge(book, table).entries();
+    assert_eq!(charge, report, "{table:?} {book:?}");
+    let ladder = second::interest_ladder(book, table, group);
+    assert_eq!(interest, ladder.entries(), "{table:?} {book:?}");
     if let Some(expert_charge) = fast::expert_charge() {
         charge = [OLD; 75];
-        expert_charge(book, &mut charge);
-        assert_eq!(charge, second::charge(book).entries(), "{book:?}");
+        expert_charge(book, table, &mut charge);
+        assert_eq!(charge, report, "{table:?} {book:?}");
     }
+    report[0]
 }
 
 /// Compares a join into so many bytes and gives its refusal's number.

@@ -1,5 +1,7 @@
-//! Books built by hand for the tests.
+//! Books built by hand for the tests, and what they cost under document 01's table.
 #![allow(dead_code)]
+
+use second::{InterestLadder, Report};
 
 /// The 16 bytes of a row.
 pub type Bytes = [u8; 16];
@@ -72,4 +74,19 @@ pub fn clean(class: usize) -> Bytes {
         row(3, 0, 0, 0, 30),
         row(4, 0, 400, 0, -40),
     ][class]
+}
+
+/// The report of a book under document 01's table.
+pub fn charge(book: &[u8]) -> Report {
+    second::charge(book, &second::table())
+}
+
+/// The ladder of a currency under document 01's table.
+pub fn interest_ladder(book: &[u8], group: usize) -> InterestLadder {
+    second::interest_ladder(book, &second::table(), group)
+}
+
+/// The bytes of a table.
+pub fn table(weights: [u16; 15], per_cents: [u8; 6]) -> Vec<u8> {
+    [&weights.map(u16::to_le_bytes).concat(), &per_cents[..]].concat()
 }

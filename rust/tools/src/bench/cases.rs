@@ -1,14 +1,23 @@
-//! The books that are timed.
+//! The books that are timed, and the tables that they are charged under.
 
 use books::generate::{row, Shape};
+use books::tables::Table;
 use books::{Book, Random, CLASSES, ROW_BYTES};
 
-/// Books of one sort, and pairs of books that have as many rows together.
+/// Books of one sort, pairs of books that have as many rows together, and a table.
 pub struct Case {
     pub name: &'static str,
     pub rows: usize,
     pub books: Vec<Vec<u8>>,
     pub pairs: [Vec<Vec<u8>>; 2],
+    pub table: Vec<u8>,
+}
+
+impl Case {
+    /// Whether the table is another than document 01's: only calls that take one are timed.
+    pub fn own_table(&self) -> bool {
+        self.table != second::table()
+    }
 }
 
 /// The sorts: their names, their rows, and the classes that rows are taken from in turn.
@@ -59,6 +68,26 @@ fn accepted(name: &'static str, rows: usize, classes: &[usize]) -> Case {
         rows,
         books: series(0, rows, rows, classes),
         pairs: [1, 2].map(|number| series(number, rows, half, classes)),
+        table: second::table().to_vec(),
+    }
+}
+
+/// An accepted table that has no weight and no per cent in common with document 01's.
+const OWN: Table = Table {
+    weights: [
+        5, 35, 60, 95, 150, 210, 260, 330, 390, 440, 540, 640, 720, 960, 1_500,
+    ],
+    vertical: 5,
+    zones: [25, 20, 35],
+    adjacent: 45,
+    zones_1_3: 95,
+};
+
+/// A case of accepted books of all classes under a table of its own.
+fn under_own_table() -> Case {
+    Case {
+        table: OWN.encode(),
+        ..accepted("all classes, own table", 400, &[0, 1, 2, 3])
     }
 }
 
@@ -85,7 +114,7 @@ fn refused() -> Case {
 pub fn cases() -> Vec<Case> {
     let sorts = SORTS.iter();
     let accepted = sorts.map(|(name, rows, classes)| accepted(name, *rows, classes));
-    accepted.chain([refused()]).collect()
+    accepted.chain([refused(), under_own_table()]).collect()
 }
 
 #[cfg(test)]
@@ -148,6 +177,25 @@ mod tests {
             let refusal = market_risk::joined(a, b).unwrap_err();
             assert_eq!((refusal.number, refusal.row, refusal.book), (9, 199, 1));
         }
+    }
+
+    /// Catches a line of another table that is timed under document 01's, or under a refused
+    /// one; and books of it that are not those of the line beside it.
+    #[test]
+    fn one_line_has_a_table_of_its_own() {
+        let cases = cases();
+        let own: Vec<&Case> = cases.iter().filter(|case| case.own_table()).collect();
+        let [own] = own[..] else {
+            panic!("{} lines", own.len());
+        };
+        let fields = |bytes: &[u8]| Table::decode(bytes).unwrap();
+        let (table, amendment) = (fields(&own.table), fields(&second::table()));
+        let mut weights = table.weights.iter().zip(amendment.weights);
+        assert!(weights.all(|(one, other)| *one != other));
+        assert!((30..36).all(|at| own.table[at] != second::table()[at]));
+        assert!(second::read_table(&own.table).is_ok());
+        let same = |case: &&Case| (case.name, case.rows) == ("all classes", own.rows);
+        assert_eq!(own.books, cases.iter().find(same).unwrap().books);
     }
 
     #[test]

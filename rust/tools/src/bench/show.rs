@@ -25,7 +25,7 @@ fn ratio(proved: f64, other: f64) -> f64 {
 }
 
 impl<'a> Table<'a> {
-    /// A call on every case.
+    /// A call on every case, but for tables that it does not take.
     pub fn new(call: &Call, cases: &'a [Case]) -> Result<Table<'a>, Failure> {
         let line = |case: &'a Case| {
             Ok(Line {
@@ -34,9 +34,11 @@ impl<'a> Table<'a> {
                 timed: (call.sides)(case)?,
             })
         };
+        let timed = cases.iter();
+        let timed = timed.filter(|case| call.takes_table || !case.own_table());
         Ok(Table {
             call: call.name,
-            lines: cases.iter().map(line).collect::<Result<_, _>>()?,
+            lines: timed.map(line).collect::<Result<_, _>>()?,
         })
     }
 

@@ -4,7 +4,7 @@ use super::cases::Case;
 use super::expected::{expected, expected_of_pairs};
 use super::floors::{copy, copy_bytes, sum_bytes, sum_words};
 use super::timed::Timed;
-use super::work::{of_book, of_group, of_pair, Answer, Work};
+use super::work::{of_book, of_group, of_pair, of_table, of_table_and_group, Answer, Work};
 use crate::calls::{Calls, Second};
 use crate::cli::Failure;
 use market_risk::raw;
@@ -16,9 +16,10 @@ type Sides<'a> = Result<Vec<Timed<'a>>, Failure>;
 /// One side: its name, its work and what it must answer.
 type Side<'a> = (&'static str, Box<dyn Work + 'a>, Rc<[Answer]>);
 
-/// A call, and how its sides are made.
+/// A call, whether it takes a table, and how its sides are made.
 pub struct Call {
     pub name: &'static str,
+    pub takes_table: bool,
     pub sides: fn(&Case) -> Sides,
 }
 
@@ -26,22 +27,27 @@ pub struct Call {
 pub const CALLS: [Call; 5] = [
     Call {
         name: "check",
+        takes_table: false,
         sides: check,
     },
     Call {
         name: "charge",
+        takes_table: true,
         sides: charge,
     },
     Call {
         name: "interest ladder",
+        takes_table: true,
         sides: interest_ladder,
     },
     Call {
         name: "commodity ladder",
+        takes_table: false,
         sides: commodity_ladder,
     },
     Call {
         name: "join",
+        takes_table: false,
         sides: join,
     },
 ];
@@ -69,28 +75,31 @@ fn check(case: &Case) -> Sides<'_> {
 }
 
 fn charge(case: &Case) -> Sides<'_> {
-    let books = &case.books;
-    let expected = expected(case, |book, _, out| Second.charge(book, out));
+    let (books, table) = (&case.books, &case.table);
+    let expected = expected(case, |book, _, out| Second.charge(book, table, out));
+    let proved = of_table(books, table, raw::charge);
+    let plain = of_table(books, table, fast::charge);
     let mut sides = vec![
-        ("proved", of_book(books, raw::charge), expected.clone()),
-        ("Rust", of_book(books, fast::charge), expected.clone()),
+        ("proved", proved, expected.clone()),
+        ("Rust", plain, expected.clone()),
     ];
     if let Some(expert) = fast::expert_charge() {
-        sides.push(("C", of_book(books, expert), expected));
+        sides.push(("C", of_table(books, table, expert), expected));
     }
     sides.push(words(case));
     compared(sides)
 }
 
 fn interest_ladder(case: &Case) -> Sides<'_> {
-    let books = &case.books;
+    let (books, table) = (&case.books, &case.table);
     let expected = expected(case, |book, group, out| {
-        Second.interest_ladder(book, group, out)
+        Second.interest_ladder(book, table, group, out)
     });
-    let proved = of_group(books, raw::interest_ladder);
+    let proved = of_table_and_group(books, table, raw::interest_ladder);
+    let plain = of_table_and_group(books, table, fast::interest_ladder);
     compared(vec![
         ("proved", proved, expected.clone()),
-        ("Rust", of_group(books, fast::interest_ladder), expected),
+        ("Rust", plain, expected),
         words(case),
     ])
 }

@@ -139,3 +139,17 @@ fn the_proved_library_comes_first() {
         assert!(named.eq(["proved", "Rust", floor]), "{names:?}");
     }
 }
+
+/// Catches a line under another table that is missing where a call takes one, or that stands
+/// where none is taken.
+#[test]
+fn calls_that_take_a_table_have_a_line_under_another() {
+    let cases = cases();
+    for call in &CALLS {
+        let table = Table::new(call, &cases).unwrap();
+        let own = |line: &&Line| line.book == "all classes, own table";
+        let lines = table.lines.iter().filter(own).count();
+        let takes = ["charge", "interest ladder"].contains(&call.name);
+        assert_eq!(lines, usize::from(takes), "{}", call.name);
+    }
+}

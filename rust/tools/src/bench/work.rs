@@ -88,6 +88,42 @@ where
     })
 }
 
+/// A call on a book under a table.
+pub fn of_table<'a, F, const N: usize>(
+    books: &'a [Vec<u8>],
+    table: &'a [u8],
+    call: F,
+) -> Box<dyn Work + 'a>
+where
+    F: Fn(&[u8], &[u8], &mut [u64; N]) + 'a,
+{
+    Box::new(OfBook {
+        books,
+        call: move |book: &[u8], _, entries: &mut [u64; N]| call(book, black_box(table), entries),
+        path: type_name::<F>(),
+        entries: [OLD_ENTRY; N],
+    })
+}
+
+/// A call on a book and one of its 32 groups under a table.
+pub fn of_table_and_group<'a, F, const N: usize>(
+    books: &'a [Vec<u8>],
+    table: &'a [u8],
+    call: F,
+) -> Box<dyn Work + 'a>
+where
+    F: Fn(&[u8], &[u8], usize, &mut [u64; N]) + 'a,
+{
+    Box::new(OfBook {
+        books,
+        call: move |book: &[u8], group, entries: &mut [u64; N]| {
+            call(book, black_box(table), group, entries)
+        },
+        path: type_name::<F>(),
+        entries: [OLD_ENTRY; N],
+    })
+}
+
 /// A call on two books that writes a third.
 struct OfPair<'a, F> {
     pairs: &'a [Vec<Vec<u8>>; 2],

@@ -1,16 +1,18 @@
-//! One random case: two books, a group and the length of an output.
+//! One random case: two books, a table, a group and the length of an output.
 
+use super::e4::add_e4;
 use books::damage::{damage, damage_note};
 use books::generate::{book, interest_book, interest_rows, ladder_book, Shape};
-use books::names::FLOATING;
-use books::{csv, Book, Random, Row, ROW_BYTES};
-use std::fmt;
+use books::tables::random::{accepted, broken, nudged, of_wrong_length, WAYS};
+use books::{Random, ROW_BYTES};
 
-/// What the five calls are given.
+/// What the calls are given.
 #[derive(Clone, Debug, PartialEq, Eq)]
 pub struct Case {
     pub a: Vec<u8>,
     pub b: Vec<u8>,
+    /// The bytes of the table, one for all the books that are compared.
+    pub table: Vec<u8>,
     /// The group of both ladder calls.
     pub group: usize,
     /// The length of join's output.
@@ -71,37 +73,16 @@ fn any_books(random: &mut Random) -> [Vec<u8>; 2] {
     })
 }
 
-/// The rows of document 01's E4, by days, long and short: its two books use zones 1 and 2,
-/// and 2 and 3. Joined, in equal parts, they cost more.
-const E4: [[(u16, u32, u32); 2]; 2] = [[(270, 75, 0), (900, 0, 30)], [(900, 30, 0), (6000, 0, 10)]];
-
-/// Puts E4's rows, up to three times as large, into two books. That of zone 1 is every second
-/// time a floating-rate note, 800 days to final maturity.
-fn add_e4(random: &mut Random, books: &mut [Book; 2]) {
-    let group = random.below(32) as u8;
-    let row = Row::default().with_group(group).with_coupon(800);
-    for (book, rows) in books.iter_mut().zip(E4) {
-        let times = 1 + random.below(3) as u32;
-        let near = random.pick(&[1, FLOATING]);
-        let rows = rows.map(|(days, long, short)| {
-            let kind = if days <= 360 { near } else { 1 };
-            let row = row.with_kind(kind).with_days(days);
-            row.with_sides(times * long, times * short)
-        });
-        book.classes[0].extend(rows);
-    }
-}
-
 /// Two accepted books with interest rows in the same currencies, of which some use at most
 /// two zones, others all three; every second time with E4 among them.
-fn books_of_currencies(random: &mut Random) -> [Vec<u8>; 2] {
+fn books_of_currencies(random: &mut Random, table: &[u8]) -> [Vec<u8>; 2] {
     let mut shape = Shape::of_currencies(random, 0);
     let mut books = [0; 2].map(|_| {
         shape.rows = 1 + random.below(16) as usize;
         interest_book(random, &shape)
     });
     if random.once_in(2) {
-        add_e4(random, &mut books);
+        add_e4(random, &mut books, table);
     }
     books.map(|book| book.encode().expect("few rows"))
 }
@@ -132,12 +113,29 @@ fn books_of_one_group(random: &mut Random) -> [Vec<u8>; 2] {
     })
 }
 
+/// A table: mostly an accepted one, often document 01's; else with one condition broken by one,
+/// with one byte changed, or of a wrong length.
+fn table(random: &mut Random) -> Vec<u8> {
+    match random.below(20) {
+        0 => of_wrong_length(random),
+        1 | 2 => {
+            let way = random.below(WAYS as u64) as usize;
+            broken(random, way).encode()
+        }
+        3 => nudged(random),
+        4..=7 => second::table().to_vec(),
+        _ => accepted(random).encode(),
+    }
+}
+
 impl Case {
     /// The case with this number of a seed.
     pub fn new(seed: u64, number: u64) -> Case {
+        // The table has a stream of its own.
+        let table = table(&mut Random::of_case(!seed, number));
         let mut random = Random::of_case(seed, number);
         let [a, b] = match random.below(16) {
-            0 | 1 => books_of_currencies(&mut random),
+            0 | 1 => books_of_currencies(&mut random, &table),
             2 | 3 => books_of_notes(&mut random),
             4 | 5 => books_of_one_group(&mut random),
             _ => any_books(&mut random),
@@ -146,25 +144,10 @@ impl Case {
             group: group(&mut random, &a),
             room: room(&mut random, (a.len() + b.len()).saturating_sub(8)),
             order: random.draw(),
+            table,
             a,
             b,
         }
-    }
-}
-
-/// A file in hex and, where it has rows, as CSV.
-fn show(name: &str, bytes: &[u8]) -> String {
-    let hex: String = bytes.iter().map(|byte| format!("{byte:02x}")).collect();
-    let rows = Book::decode(bytes).map(|book| csv::write(&book));
-    let rows = rows.unwrap_or_else(|| "(the length does not agree with the counts)\n".into());
-    format!("book {name}, {} bytes: {hex}\n{rows}", bytes.len())
-}
-
-impl fmt::Display for Case {
-    fn fmt(&self, out: &mut fmt::Formatter) -> fmt::Result {
-        let Case { group, room, .. } = self;
-        let (a, b) = (show("A", &self.a), show("B", &self.b));
-        write!(out, "group {group}, output of {room} bytes\n{a}{b}")
     }
 }
 
@@ -176,15 +159,5 @@ mod tests {
     fn a_case_is_made_by_itself() {
         assert_eq!(Case::new(3, 900), Case::new(3, 900));
         assert_ne!(Case::new(3, 900).a, Case::new(4, 900).a);
-    }
-
-    #[test]
-    fn a_case_is_shown_in_hex_and_as_csv() {
-        let mut case = Case::new(1, 1);
-        case.a = vec![0; 8];
-        case.b = vec![1, 2];
-        let text = case.to_string();
-        assert!(text.contains("book A, 8 bytes: 0000000000000000\nclass,group,"));
-        assert!(text.contains("book B, 2 bytes: 0102\n(the length"));
     }
 }

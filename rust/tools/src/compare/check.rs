@@ -1,4 +1,4 @@
-//! All five calls on one case, entry by entry and byte by byte.
+//! All six calls on one case, entry by entry and byte by byte.
 
 use super::case::Case;
 use crate::calls::Calls;
@@ -66,23 +66,43 @@ fn join(library: &dyn Calls, other: &dyn Calls, case: &Case) -> Option<String> {
     })
 }
 
+/// Compares document 01's table by both calculations.
+fn table(library: &dyn Calls, other: &dyn Calls) -> Option<String> {
+    let (mut ours, mut theirs) = ([0x5a; 36], [0xa5; 36]);
+    library.table(&mut ours);
+    other.table(&mut theirs);
+    let at = ours.iter().zip(&theirs).position(|(one, two)| one != two)?;
+    let ([one, two], byte, expected) = ([library.name(), other.name()], ours[at], theirs[at]);
+    Some(format!(
+        "table: byte {at} is {byte} by {one} and {expected} by {two}"
+    ))
+}
+
+/// The first difference of the calls on the first book, in words.
+fn of_book(calculations: [&dyn Calls; 2], case: &Case) -> Option<String> {
+    let (book, table, group) = (&case.a, &case.table, case.group);
+    let check = || both("check", calculations, |calls, out| calls.check(book, out));
+    let charge = || {
+        both("charge", calculations, |calls, out| {
+            calls.charge(book, table, out)
+        })
+    };
+    let interest = || {
+        both("interest ladder", calculations, |calls, out| {
+            calls.interest_ladder(book, table, group, out);
+        })
+    };
+    let commodity = || {
+        both("commodity ladder", calculations, |calls, out| {
+            calls.commodity_ladder(book, group, out);
+        })
+    };
+    check().or_else(charge).or_else(interest).or_else(commodity)
+}
+
 /// The first difference of a case, in words.
 pub fn difference(library: &dyn Calls, other: &dyn Calls, case: &Case) -> Option<String> {
-    let calculations = [library, other];
-    let group = case.group;
-    let book = |book: &[u8]| {
-        both("check", calculations, |calls, out| calls.check(book, out))
-            .or_else(|| both("charge", calculations, |calls, out| calls.charge(book, out)))
-            .or_else(|| {
-                both("interest ladder", calculations, |calls, out| {
-                    calls.interest_ladder(book, group, out);
-                })
-            })
-            .or_else(|| {
-                both("commodity ladder", calculations, |calls, out| {
-                    calls.commodity_ladder(book, group, out);
-                })
-            })
-    };
-    book(&case.a).or_else(|| join(library, other, case))
+    of_book([library, other], case)
+        .or_else(|| join(library, other, case))
+        .or_else(|| table(library, other))
 }

@@ -106,9 +106,9 @@ impl Calls for Faulty {
         mistell(self.0, out);
     }
 
-    fn charge(&self, book: &[u8], out: &mut [u64; 75]) {
+    fn charge(&self, book: &[u8], table: &[u8], out: &mut [u64; 75]) {
         let last = out[74];
-        Second.charge(&misread(self.0, book), out);
+        Second.charge(&misread(self.0, book), table, out);
         mistell(self.0, out);
         if out[0] != 0 {
             match self.0 {
@@ -142,8 +142,8 @@ impl Calls for Faulty {
         }
     }
 
-    fn interest_ladder(&self, book: &[u8], group: usize, out: &mut [u64; 13]) {
-        Second.interest_ladder(book, group, out);
+    fn interest_ladder(&self, book: &[u8], table: &[u8], group: usize, out: &mut [u64; 13]) {
+        Second.interest_ladder(book, table, group, out);
     }
 
     fn commodity_ladder(&self, book: &[u8], group: usize, out: &mut [u64; 7]) {
@@ -162,5 +162,9 @@ impl Calls for Faulty {
         if self.0 == Fault::RefusedWrites && result[0] == 12 && !out.is_empty() {
             out[0] ^= 1;
         }
+    }
+
+    fn table(&self, out: &mut [u8; 36]) {
+        Second.table(out);
     }
 }

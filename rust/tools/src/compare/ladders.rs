@@ -5,12 +5,12 @@ use super::case::Case;
 use crate::calls::Calls;
 use crate::ladder::adding_up::{self, Line};
 use books::Book;
-use market_risk::{CommodityLadder, InterestLadder};
+use market_risk::{CommodityLadder, InterestLadder, Table};
 
 /// The figures of a currency, if the call is accepted.
 fn interest_ladder(calls: &dyn Calls, case: &Case) -> Option<InterestLadder> {
     let mut out = [0; 13];
-    calls.interest_ladder(&case.a, case.group, &mut out);
+    calls.interest_ladder(&case.a, &case.table, case.group, &mut out);
     let [0, _, _, gross, vertical, zone_1, zone_2, zone_3, between @ .., residual, charge] = out
     else {
         return None;
@@ -55,7 +55,8 @@ pub fn broken(calls: &dyn Calls, case: &Case) -> Option<String> {
     let group = case.group as u64;
     let of_currency = || {
         let ladder = interest_ladder(calls, case)?;
-        let lines = adding_up::interest(&interest, group, &ladder);
+        let table = Table::new(&case.table).ok()?;
+        let lines = adding_up::interest(&interest, group, &table, &ladder);
         first("currency", group, &lines)
     };
     let of_commodity = || {

@@ -1,5 +1,6 @@
 //! Demand 3, the charges of each currency and the ladders on one case, by the library's own
-//! figures: lists and ladders that add up, order, mirror and joining.
+//! figures: lists and ladders that add up, order, mirror and joining, all books of the case
+//! under its one table.
 
 use super::case::Case;
 use super::check::unequal;
@@ -44,16 +45,16 @@ const LISTS: [List; 2] = [
     },
 ];
 
-/// The report of a book.
-fn report(calls: &dyn Calls, book: &[u8]) -> Report {
+/// The report of a book under the table of a case.
+fn report(calls: &dyn Calls, case: &Case, book: &[u8]) -> Report {
     let mut out = [0; 75];
-    calls.charge(book, &mut out);
+    calls.charge(book, &case.table, &mut out);
     out
 }
 
 /// Each list of a report sums to the figure that it splits, of a refused book too.
 fn adding_up(calls: &dyn Calls, case: &Case) -> Option<String> {
-    let report = report(calls, &case.a);
+    let report = report(calls, case, &case.a);
     LISTS.iter().find_map(|list| {
         let entries = &report[list.first..list.first + GROUPS];
         let sum: u128 = entries.iter().map(|entry| u128::from(*entry)).sum();
@@ -84,7 +85,7 @@ fn mirrored(book: &Book) -> Book {
 /// Reordered and mirrored books have the same report.
 fn order_and_mirror(calls: &dyn Calls, case: &Case) -> Option<String> {
     let book = Book::decode(&case.a)?;
-    let expected = report(calls, &case.a);
+    let expected = report(calls, case, &case.a);
     if expected[0] != 0 {
         return None;
     }
@@ -95,7 +96,7 @@ fn order_and_mirror(calls: &dyn Calls, case: &Case) -> Option<String> {
         ("reordered", other),
     ];
     variants.iter().find_map(|(name, variant)| {
-        let entries = unequal(&report(calls, &variant.encode()?), &expected)?;
+        let entries = unequal(&report(calls, case, &variant.encode()?), &expected)?;
         Some(format!("{name} and as it is: {entries}"))
     })
 }
@@ -136,8 +137,12 @@ fn joining(calls: &dyn Calls, case: &Case) -> Option<String> {
     if result[0] != 0 {
         return None;
     }
-    let (a, b) = (report(calls, &case.a), report(calls, &case.b));
-    let whole = report(calls, &joined);
+    let (a, b) = (report(calls, case, &case.a), report(calls, case, &case.b));
+    // Under a refused table nothing is charged.
+    if [18, 19].contains(&a[0]) {
+        return None;
+    }
+    let whole = report(calls, case, &joined);
     if whole[0] != 0 {
         return Some(format!("the joined book is refused with {}", whole[0]));
     }

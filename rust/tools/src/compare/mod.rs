@@ -3,23 +3,34 @@
 mod case;
 mod check;
 mod cuts;
+mod e4;
 #[cfg(test)]
 mod faulty;
 mod floating;
 mod ladders;
 mod laws;
+mod least;
+#[cfg(test)]
+mod mended;
 #[cfg(test)]
 mod misread;
+#[cfg(test)]
+mod misread_tables;
 mod premises;
 mod run;
+mod shown;
 mod shrink;
 #[cfg(test)]
 mod stand_ins;
+mod table_cuts;
+mod tables;
 mod tally;
 #[cfg(test)]
 mod tests;
 #[cfg(test)]
 mod wrong_ladders;
+#[cfg(test)]
+mod wrong_tables;
 
 use crate::cli::{print, Args, Command, Outcome};
 use run::Run;
@@ -31,22 +42,25 @@ pub const COMMAND: Command = Command {
     help: "market-risk compare [--seed S] [--count N] [--first K]
 
 Makes N pairs of random and damaged books from seed S and holds the proved library to
-the second calculation: all five calls, every entry of every result and every byte of
-every output. Demand 3 is sampled too: a reordered, mirrored, or reordered and mirrored
-book has the same report; a joined book takes as many rows as its two parts and, with at
-most two zones used in each currency, costs at most these, in each charge and the total.
+the second calculation: all six calls, every entry of every result and every byte of
+every output. Each pair has one table: document 01's, another that is accepted, or one that
+is refused. Demand 3 is sampled too: a reordered, mirrored, or reordered and mirrored book
+has the same report; a joined book takes as many rows as its two parts and, with at most
+two zones used in each currency, costs at most these, in each charge and the total.
 So are the charges of each currency: each list adds up to the charge that it splits, and
 a currency that itself uses at most two zones in a joined book costs at most what it cost
 in the two, whatever the other currencies use. And every ladder that is accepted adds up,
 in the lines that `ladder` shows, which hold the library's figures to the rows.
 
-On a difference it prints the smallest books that it can find, in hex and as CSV, and
-stops with exit status 1. It also fails when the pairs have shown too little: every
-refusal, accepted books with rows, books refused after their first row, interest ladders
-with all three zones used, commodity ladders with amounts carried, joins made, joins under
-the zone premise, currencies of both books under their own premise, these beside a
-currency with three zones, currencies that cost more joined, and floating-rate notes,
-accepted, joined, and refused in each way and place, must come up in proportion to N.
+On a difference it prints the smallest books that it can find, in hex and as CSV, with the
+table next to document 01's, and stops with exit status 1. It also fails when the pairs
+have shown too little: every refusal, accepted books with rows, books refused after their
+first row, interest ladders with all three zones used, commodity ladders with amounts
+carried, joins made, joins under the zone premise, currencies of both books under their own
+premise, these beside a currency with three zones, currencies that cost more joined,
+floating-rate notes, accepted, joined, and refused in each way and place, and tables,
+document 01's, others with interest rows, of a wrong length, with each condition broken
+alone, and refused before bad books and after groups, must come up in proportion to N.
 
   --seed S    the seed, 1 if not given
   --count N   how many pairs, 20000 if not given

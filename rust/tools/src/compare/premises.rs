@@ -30,10 +30,10 @@ pub struct Premises {
 }
 
 impl Premises {
-    /// Counts a join: A, B and the joined book.
-    pub fn count(&mut self, books: [&[u8]; 3]) {
+    /// Counts a join under an accepted table: A, B and the joined book.
+    pub fn count(&mut self, books: [&[u8]; 3], table: &[u8]) {
         self.count_zones(books.map(zones));
-        let [a, b, joined] = books.map(|book| second::charge(book).generals);
+        let [a, b, joined] = books.map(|book| second::charge(book, table).generals);
         let dearer = |group: &usize| joined[*group] > a[*group] + b[*group];
         self.dearer += (0..GROUPS).filter(dearer).count() as u64;
     }

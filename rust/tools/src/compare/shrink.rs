@@ -2,6 +2,7 @@
 
 use super::case::Case;
 use super::cuts::{cuts, in_one_group};
+use super::table_cuts::nearer;
 
 /// How many cuts are tried at most: full books that cannot be cut have very many.
 const MOST_TRIES: usize = 10_000;
@@ -33,7 +34,11 @@ fn smaller(case: &Case) -> impl Iterator<Item = Case> + '_ {
     };
     let numbers = [plain(0, case.room), plain(case.group, 0), one_group].into_iter();
     let numbers = numbers.filter(move |plain| plain != case);
-    numbers.chain(of_b).chain(of_a)
+    let of_table = nearer(&case.table).map(|table| Case {
+        table,
+        ..case.clone()
+    });
+    numbers.chain(of_table).chain(of_b).chain(of_a)
 }
 
 /// Cuts a failing case for as long as a cut still fails.
@@ -74,6 +79,7 @@ mod tests {
         Case {
             a: book.encode().unwrap(),
             b: vec![9; 40],
+            table: vec![7; 36],
             group: 9,
             room: 500,
             order: 1,
@@ -94,6 +100,7 @@ mod tests {
         assert_eq!(book.classes[3], [plain; 2]);
         let left = (smallest.b.len(), smallest.group, smallest.room);
         assert_eq!(left, (0, 0, 0));
+        assert_eq!(smallest.table, second::table());
     }
 
     /// Catches a group that is kept because neither the call's nor the rows' can be changed

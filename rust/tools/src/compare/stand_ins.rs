@@ -7,7 +7,7 @@ use crate::calls::{Calls, Proved, Second};
 use crate::cli::{Args, Failure};
 use books::Book;
 
-/// The five calls.
+/// The six calls.
 #[derive(Clone, Copy, Debug, PartialEq)]
 enum Call {
     Check,
@@ -15,14 +15,16 @@ enum Call {
     InterestLadder,
     CommodityLadder,
     Join,
+    Table,
 }
 
-const CALLS: [Call; 5] = [
+const CALLS: [Call; 6] = [
     Call::Check,
     Call::Charge,
     Call::InterestLadder,
     Call::CommodityLadder,
     Call::Join,
+    Call::Table,
 ];
 
 /// The second calculation, but for some calls: these write zeros, or nothing at all.
@@ -49,11 +51,11 @@ impl Calls for StandIn<'_> {
     fn check(&self, book: &[u8], out: &mut [u64; 3]) {
         self.answer(Call::Check, out, |out| Second.check(book, out));
     }
-    fn charge(&self, book: &[u8], out: &mut [u64; 75]) {
-        self.answer(Call::Charge, out, |out| Second.charge(book, out));
+    fn charge(&self, book: &[u8], table: &[u8], out: &mut [u64; 75]) {
+        self.answer(Call::Charge, out, |out| Second.charge(book, table, out));
     }
-    fn interest_ladder(&self, book: &[u8], group: usize, out: &mut [u64; 13]) {
-        let real = |out: &mut [u64; 13]| Second.interest_ladder(book, group, out);
+    fn interest_ladder(&self, book: &[u8], table: &[u8], group: usize, out: &mut [u64; 13]) {
+        let real = |out: &mut [u64; 13]| Second.interest_ladder(book, table, group, out);
         self.answer(Call::InterestLadder, out, real);
     }
     fn commodity_ladder(&self, book: &[u8], group: usize, out: &mut [u64; 7]) {
@@ -64,6 +66,13 @@ impl Calls for StandIn<'_> {
         match (self.without.contains(&Call::Join), self.zeros) {
             (false, _) => Second.join(a, b, out, result),
             (true, true) => result.fill(0),
+            (true, false) => (),
+        }
+    }
+    fn table(&self, out: &mut [u8; 36]) {
+        match (self.without.contains(&Call::Table), self.zeros) {
+            (false, _) => Second.table(out),
+            (true, true) => out.fill(0),
             (true, false) => (),
         }
     }
@@ -131,6 +140,7 @@ fn a_run_that_has_seen_too_little_fails() {
     empty.cases = |_, _| Case {
         a: vec![0; 8],
         b: vec![0; 8],
+        table: second::table().to_vec(),
         group: 0,
         room: 8,
         order: 0,
@@ -143,6 +153,9 @@ fn a_run_that_has_seen_too_little_fails() {
     assert!(message.contains("\ncurrencies joined under their zone premise: 0 where"));
     assert!(message.contains("\nbooks accepted with floating rates: 0 where"));
     assert!(message.contains("\nbooks refused 15: 0 where at least 355 are wanted\n"));
+    assert!(message.contains("\nother tables accepted: 0 where"));
+    assert!(message.contains("\ntables refused 18: 0 where"));
+    assert!(message.contains("\ntables refused for 1-3 above 100 alone: 0 where"));
     assert!(!message.contains("books accepted: "), "{message}");
     empty.count = 50;
     assert!(empty.outcome().is_ok());
@@ -188,6 +201,14 @@ fn without_carried(seed: u64, number: u64) -> Case {
     case
 }
 
+/// A case of a seed under document 01's table.
+fn under_one_table(seed: u64, number: u64) -> Case {
+    Case {
+        table: second::table().to_vec(),
+        ..Case::new(seed, number)
+    }
+}
+
 /// What a run of 4,000 cases of a kind lacks.
 fn lacking(cases: fn(u64, u64) -> Case) -> Vec<String> {
     let none = StandIn {
@@ -206,9 +227,9 @@ fn lacking(cases: fn(u64, u64) -> Case) -> Vec<String> {
 #[test]
 fn a_run_without_three_zones_fails() {
     let expected = [
-        "interest ladders with three zones: 0 where at least 70 are wanted",
-        "currencies joined beside one with three zones: 0 where at least 125 are wanted",
-        "currencies dearer when joined: 0 where at least 55 are wanted",
+        "interest ladders with three zones: 0 where at least 56 are wanted",
+        "currencies joined beside one with three zones: 0 where at least 96 are wanted",
+        "currencies dearer when joined: 0 where at least 18 are wanted",
     ];
     assert_eq!(lacking(without_three), expected);
 }
@@ -233,4 +254,16 @@ fn a_run_without_notes_fails() {
     );
     assert!(lacking.iter().all(|line| line.contains(": 0 where")));
     assert_eq!(lacking.len(), 10, "{lacking:?}");
+}
+
+/// Catches a run that has seen no table but document 01's, and so nothing of what is loaded.
+#[test]
+fn a_run_under_document_01_s_table_alone_fails() {
+    let lacking = lacking(under_one_table);
+    assert!(
+        lacking.iter().all(|line| line.contains("tables")),
+        "{lacking:?}"
+    );
+    assert!(lacking.iter().all(|line| line.contains(": 0 where")));
+    assert_eq!(lacking.len(), 17, "{lacking:?}");
 }

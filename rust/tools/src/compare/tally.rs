@@ -3,6 +3,7 @@
 use super::case::Case;
 use super::floating::Floating;
 use super::premises::Premises;
+use super::tables::Tables;
 use std::fmt;
 
 /// Counts of books, refusals and joins.
@@ -16,52 +17,18 @@ pub struct Tally {
     /// First books by the number of their refusal, 1 to 9 or 15.
     pub refused: [u64; 16],
     pub ladder_refused: u64,
-    /// Interest ladders of currencies that use all three zones.
+    /// Interest ladders, under an accepted table, of currencies that use all three zones.
     pub three_zones: u64,
     /// Commodity ladders with amounts carried.
     pub carried: u64,
     /// Joins by the number of their refusal; 0 counts those that were made.
     pub joins: [u64; 16],
     pub of_second: u64,
+    /// Of joins under an accepted table.
     pub premises: Premises,
     pub floating: Floating,
+    pub tables: Tables,
 }
-
-/// What 20,000 cases must show at least: about a third of what they do show.
-const LEAST: Tally = Tally {
-    accepted: 3_900,
-    with_rows: 3_900,
-    after_first: 960,
-    refused: [
-        0, 50, 120, 530, 255, 340, 140, 180, 235, 110, 0, 0, 0, 0, 0, 355,
-    ],
-    ladder_refused: 740,
-    three_zones: 350,
-    carried: 760,
-    joins: [
-        2_050, 80, 175, 790, 395, 520, 210, 275, 360, 165, 0, 20, 1_050, 0, 0, 555,
-    ],
-    of_second: 1_210,
-    premises: Premises {
-        joins: 1_230,
-        currencies: 1_470,
-        beside_three: 625,
-        dearer: 275,
-    },
-    floating: Floating {
-        accepted: 1_850,
-        joined: 650,
-        places: [170, 100, 85],
-        ways: [75, 80, 75],
-        elsewhere: 190,
-    },
-};
-
-/// The cases that `LEAST` is about.
-const CASES: u128 = 20_000;
-
-/// A minimum that comes to fewer is not asked for: chance alone could miss it.
-const FEWEST: u64 = 10;
 
 impl Tally {
     /// Counts a case, by the second calculation.
@@ -75,8 +42,10 @@ impl Tally {
         self.after_first += u64::from(refusal.row > 0);
         self.floating.count(&case.a, &refusal);
         self.ladder_refused += u64::from(case.group > 31);
+        self.tables.count(case);
+        let charged = second::read_table(&case.table).is_ok();
         let zones = second::zones_used(&case.a, case.group);
-        self.three_zones += u64::from(zones == [true; 3]);
+        self.three_zones += u64::from(charged && zones == [true; 3]);
         let carried = second::commodity_ladder(&case.a, case.group).carried;
         self.carried += u64::from(carried > 0);
         let mut out = vec![0; case.room];
@@ -85,13 +54,15 @@ impl Tally {
         self.of_second += joined.refusal.book;
         out.truncate(joined.length as usize);
         if joined.refusal.accepted() {
-            self.premises.count([&case.a, &case.b, &out]);
             self.floating.count_join([&case.a, &case.b]);
+            if charged {
+                self.premises.count([&case.a, &case.b, &out], &case.table);
+            }
         }
     }
 
     /// Every count beside its name.
-    fn named(&self) -> Vec<(String, u64)> {
+    pub fn named(&self) -> Vec<(String, u64)> {
         let numbered = |name: &'static str, counts: &[u64]| -> Vec<(String, u64)> {
             let counts = counts.iter().enumerate().skip(1);
             let named = counts.map(|(number, count)| (format!("{name} {number}"), *count));
@@ -115,21 +86,10 @@ impl Tally {
         ];
         counts.extend(self.premises.named());
         counts.extend(self.floating.named());
+        counts.extend(self.tables.named());
         counts.extend(numbered("books refused", &self.refused));
         counts.extend(numbered("joins refused", &self.joins));
         counts
-    }
-
-    /// What so many cases should have shown and have not, in words.
-    pub fn lacking(&self, cases: u64) -> Vec<String> {
-        let wanted = |least: u64| (u128::from(least) * u128::from(cases) / CASES) as u64;
-        let counts = self.named().into_iter().zip(LEAST.named());
-        let short = counts.filter_map(|((name, count), (_, least))| {
-            let wanted = wanted(least);
-            (wanted >= FEWEST && count < wanted)
-                .then(|| format!("{name}: {count} where at least {wanted} are wanted"))
-        });
-        short.collect()
     }
 }
 
@@ -157,6 +117,7 @@ impl fmt::Display for Tally {
         )?;
         writeln!(out, "joins made {}, {}", self.joins[0], self.premises)?;
         writeln!(out, "{}", self.floating)?;
+        writeln!(out, "{}", self.tables)?;
         writeln!(
             out,
             "joins refused {not_joined}, for the second book {}",
@@ -168,95 +129,60 @@ impl fmt::Display for Tally {
 #[cfg(test)]
 mod tests {
     use super::*;
+    use books::{Book, Row};
 
-    /// What a run must show, and one number of it that is one too low.
-    fn one_short(of: impl Fn(&mut Tally) -> &mut u64) -> Vec<String> {
-        let mut tally = LEAST;
-        *of(&mut tally) -= 1;
-        tally.lacking(20_000)
+    /// Rows of a government bond in currency 7, by days, long and short.
+    fn book(rows: &[(u16, u32, u32)]) -> Vec<u8> {
+        let row = Row::default().with_group(7).with_kind(1).with_coupon(800);
+        let rows = rows
+            .iter()
+            .map(|(days, long, short)| row.with_days(*days).with_sides(*long, *short));
+        let mut book = Book::default();
+        book.classes[0] = rows.collect();
+        book.encode().unwrap()
     }
 
-    /// Catches a minimum that is left out or is nothing: each of these must be missed.
-    #[test]
-    fn every_count_has_a_minimum() {
-        assert!(LEAST.lacking(20_000).is_empty());
-        let alone = |of: fn(&mut Tally) -> &mut u64, name: &str| {
-            let lacking = one_short(of);
-            assert_eq!(lacking.len(), 1, "{name}");
-            assert!(lacking[0].starts_with(&format!("{name}: ")), "{lacking:?}");
-        };
-        alone(|tally| &mut tally.accepted, "books accepted");
-        alone(|tally| &mut tally.with_rows, "books accepted with rows");
-        alone(
-            |tally| &mut tally.after_first,
-            "books refused after their first row",
-        );
-        alone(|tally| &mut tally.ladder_refused, "ladders refused 10");
-        alone(
-            |tally| &mut tally.three_zones,
-            "interest ladders with three zones",
-        );
-        alone(
-            |tally| &mut tally.carried,
-            "commodity ladders with amounts carried",
-        );
-        alone(|tally| &mut tally.joins[0], "joins made");
-        alone(
-            |tally| &mut tally.of_second,
-            "joins refused for the second book",
-        );
-        alone(
-            |tally| &mut tally.premises.joins,
-            "joins under the zone premise",
-        );
-        alone(
-            |tally| &mut tally.premises.currencies,
-            "currencies joined under their zone premise",
-        );
-        alone(
-            |tally| &mut tally.premises.beside_three,
-            "currencies joined beside one with three zones",
-        );
-        alone(
-            |tally| &mut tally.premises.dearer,
-            "currencies dearer when joined",
-        );
-        alone(
-            |tally| &mut tally.floating.accepted,
-            "books accepted with floating rates",
-        );
-        alone(
-            |tally| &mut tally.floating.joined,
-            "joins of books with floating rates",
-        );
-        alone(
-            |tally| &mut tally.floating.elsewhere,
-            "books refused 5 for kind 4 of another class",
-        );
-        for at in 0..3 {
-            assert_eq!(one_short(|tally| &mut tally.floating.places[at]).len(), 1);
-            assert_eq!(one_short(|tally| &mut tally.floating.ways[at]).len(), 1);
-        }
-        for number in (1..=9).chain([15]) {
-            let lacking = one_short(|tally| &mut tally.refused[number]);
-            assert!(lacking[0].starts_with(&format!("books refused {number}: ")));
-        }
-        for number in (1..=9).chain([11, 12, 15]) {
-            let lacking = one_short(|tally| &mut tally.joins[number]);
-            assert!(lacking[0].starts_with(&format!("joins refused {number}: ")));
-        }
+    /// What is counted of two books under a table.
+    fn counted(a: &[u8], b: &[u8], table: &[u8]) -> Tally {
+        let mut tally = Tally::default();
+        tally.count(&Case {
+            a: a.to_vec(),
+            b: b.to_vec(),
+            table: table.to_vec(),
+            group: 7,
+            room: 1_000,
+            order: 0,
+        });
+        tally
     }
 
-    /// Catches minimums that do not follow the count of the run.
+    /// Catches ladders and joins that count though their table is refused: nothing was charged.
     #[test]
-    fn minimums_follow_the_count() {
-        let nothing = Tally::default();
-        assert_eq!(nothing.lacking(20_000).len(), 12 + 9 + 10 + 12);
-        assert!(LEAST.lacking(20_100).len() > 10);
-        let half = nothing.lacking(10_000);
-        assert!(half.contains(&"joins refused 11: 0 where at least 10 are wanted".to_string()));
-        // Few cases may miss the rarest, and very few may miss anything.
-        assert_eq!(nothing.lacking(9_999).len(), 12 + 9 + 10 + 11);
-        assert_eq!(nothing.lacking(51), [""; 0]);
+    fn nothing_is_charged_under_a_refused_table() {
+        let (near, all) = ([(270, 75, 0)], [(270, 75, 0), (900, 0, 30), (6000, 9, 0)]);
+        let (near, all) = (book(&near), book(&all));
+        let seen = |tally: Tally| [tally.three_zones, tally.premises.joins, tally.joins[0]];
+        for refused in [vec![0; 35], vec![255; 36]] {
+            assert_eq!(seen(counted(&all, &near, &refused)), [0, 0, 1]);
+            assert_eq!(seen(counted(&near, &near, &refused)), [0, 0, 1]);
+        }
+        assert_eq!(seen(counted(&all, &near, &second::table())), [1, 0, 1]);
+        assert_eq!(seen(counted(&near, &near, &second::table())), [0, 1, 1]);
+    }
+
+    /// Catches costs by another table than the case's: E4 is dearer joined under document 01's
+    /// table, and as dear as the two with 0% within bands and 80% between zones 1 and 3.
+    #[test]
+    fn a_currency_is_dearer_by_the_table_of_its_case() {
+        let (a, b) = (
+            book(&[(270, 75, 0), (900, 0, 30)]),
+            book(&[(900, 30, 0), (6000, 0, 10)]),
+        );
+        let mut table = second::table();
+        assert_eq!(counted(&a, &b, &table).premises.dearer, 1);
+        (table[30], table[35]) = (0, 80);
+        assert_eq!(counted(&a, &b, &table).premises.dearer, 0);
+        table[35] = 81;
+        assert_eq!(counted(&a, &b, &table).premises.dearer, 1);
     }
 }

@@ -153,7 +153,7 @@ fn a_difference_is_shown_with_a_small_book() {
         "pair {number} of seed 1 differs\ncommodity ladder by a faulty calculation and by "
     )));
     assert!(
-        text.contains("group 0, output of 0 bytes\nbook A, 24 bytes: "),
+        text.contains("group 0, output of 0 bytes\ndocument 01's table\nbook A, 24 bytes: "),
         "{text}"
     );
     assert!(text.contains("\ncommodity,0,none,0,0,0,"), "{text}");
@@ -219,6 +219,7 @@ fn case(a: &[Row], b: &[Row]) -> Case {
     Case {
         a: book(a),
         b: book(b),
+        table: second::table().to_vec(),
         group: 0,
         room: 1_000,
         order: 0,
@@ -246,13 +247,13 @@ fn a_currency_with_three_zones_may_cost_more() {
             bond(other, 900, 0, 30),
         ];
         let case = case(&a, &b);
-        let generals = [&case.a, &case.b].map(|book| second::charge(book).generals[7]);
+        let generals = [&case.a, &case.b].map(|book| second::charge(book, &case.table).generals[7]);
         assert_eq!(generals, [210_000; 2]);
         let mut joined = vec![0; case.a.len() + case.b.len() - 8];
         assert!(second::join(&case.a, &case.b, &mut joined)
             .refusal
             .accepted());
-        assert_eq!(second::charge(&joined).generals[7], 577_500);
+        assert_eq!(second::charge(&joined, &case.table).generals[7], 577_500);
         assert_eq!(laws::broken(&Second, &case), None);
     }
 }

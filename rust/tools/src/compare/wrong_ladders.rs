@@ -43,16 +43,22 @@ enum Wrong {
     OneSideCharged,
 }
 
-/// The per cents of the seven match sums.
-const PER_CENTS: [u64; 7] = [10, 40, 30, 30, 40, 40, 100];
+/// The per cent of a match sum, by its entry, in an accepted table.
+fn per_cent(table: &[u8], entry: usize) -> u64 {
+    let place = [30, 31, 32, 33, 34, 34, 35][entry - 4];
+    u64::from(table[place])
+}
 
-/// The weighted longs and the weighted shorts of a currency.
-fn weighted(book: &[u8], group: usize) -> [u64; 2] {
+/// The weighted longs and the weighted shorts of a currency, under an accepted table.
+fn weighted(book: &[u8], table: &[u8], group: usize) -> [u64; 2] {
     let rows = Book::decode(book).unwrap_or_default().classes[0].clone();
     let own = rows.iter().filter(|row| usize::from(row.group) == group);
+    let weights = second::read_table(table)
+        .expect("an accepted table")
+        .weights;
     let weight = |row: &Row| {
         let band = second::interest_band(row.days.into(), row.coupon.into());
-        second::interest_weight(band) as u64
+        weights[band] as u64
     };
     own.fold([0; 2], |[long, short], row| {
         let (more_long, more_short) = (u64::from(row.long), u64::from(row.short));
@@ -65,9 +71,9 @@ fn weighted(book: &[u8], group: usize) -> [u64; 2] {
 
 impl Wrong {
     /// Makes an accepted ladder of a currency wrong.
-    fn interest(self, book: &[u8], group: usize, out: &mut [u64; 13]) {
+    fn interest(self, book: &[u8], table: &[u8], group: usize, out: &mut [u64; 13]) {
         let (gross, residual) = (out[3], out[11]);
-        let [long, short] = weighted(book, group);
+        let [long, short] = weighted(book, table, group);
         match self {
             Wrong::MatchMadeUp => {
                 (out[10], out[11]) = (out[10] + residual / 2, residual.div_ceil(2))
@@ -76,7 +82,7 @@ impl Wrong {
             Wrong::MatchAndGross => (out[10], out[3]) = (out[10] + 50, gross + 100),
             Wrong::LongsOnly => out[3] = long,
             Wrong::MatchDropped(entry) => {
-                out[12] -= PER_CENTS[entry - 4] * out[entry];
+                out[12] -= per_cent(table, entry) * out[entry];
                 out[entry] = 0;
             }
             Wrong::ResidualWithSign => out[11] = long.wrapping_sub(short),
@@ -117,13 +123,13 @@ impl Calls for Agreeing {
     fn check(&self, book: &[u8], out: &mut [u64; 3]) {
         Second.check(book, out);
     }
-    fn charge(&self, book: &[u8], out: &mut [u64; 75]) {
-        Second.charge(book, out);
+    fn charge(&self, book: &[u8], table: &[u8], out: &mut [u64; 75]) {
+        Second.charge(book, table, out);
     }
-    fn interest_ladder(&self, book: &[u8], group: usize, out: &mut [u64; 13]) {
-        Second.interest_ladder(book, group, out);
+    fn interest_ladder(&self, book: &[u8], table: &[u8], group: usize, out: &mut [u64; 13]) {
+        Second.interest_ladder(book, table, group, out);
         if out[0] == 0 {
-            self.wrong.interest(book, group, out);
+            self.wrong.interest(book, table, group, out);
         }
     }
     fn commodity_ladder(&self, book: &[u8], group: usize, out: &mut [u64; 7]) {
@@ -134,6 +140,9 @@ impl Calls for Agreeing {
     }
     fn join(&self, a: &[u8], b: &[u8], out: &mut [u8], result: &mut [u64; 4]) {
         Second.join(a, b, out, result);
+    }
+    fn table(&self, out: &mut [u8; 36]) {
+        Second.table(out);
     }
 }
 

@@ -4,11 +4,6 @@ use crate::text::whole;
 use books::names::FLOATING;
 use books::Row;
 
-/// The weights of the interest bands, in basis points.
-pub const WEIGHTS: [i128; 15] = [
-    0, 20, 40, 70, 125, 175, 225, 275, 325, 375, 450, 525, 600, 800, 1250,
-];
-
 /// The last days of the interest bands, coupon 300 or more; the last band has none.
 pub const ORDINARY: [u16; 12] = [
     30, 90, 180, 360, 720, 1080, 1440, 1800, 2520, 3600, 5400, 7200,
@@ -68,9 +63,6 @@ mod tests {
                 band(&COMMODITY, days),
                 second::commodity_band(i128::from(days))
             );
-        }
-        for (band, weight) in WEIGHTS.iter().enumerate() {
-            assert_eq!(*weight, second::interest_weight(band));
         }
         for (zone, bands) in ZONES.iter().enumerate() {
             assert!(bands

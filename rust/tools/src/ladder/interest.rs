@@ -1,14 +1,14 @@
 //! The interest ladder of one currency as a table.
 
-use super::bands::{span, LOW_COUPON, ORDINARY, WEIGHTS, ZONES};
+use super::bands::{span, LOW_COUPON, ORDINARY, ZONES};
 use super::steps::{amounts, cross_check, steps, Sides, Step};
 use super::{adding_up, hold};
 use crate::text::{mils, places, table, weighted, whole};
 use books::Row;
-use market_risk::InterestLadder;
+use market_risk::{InterestLadder, Table};
 
-/// The table of bands.
-fn band_table(amounts: &[Sides; 15], bands: &[Sides; 15]) -> String {
+/// The table of bands: their weights, amounts and weighted positions.
+fn band_table(weights: &[u16; 15], amounts: &[Sides; 15], bands: &[Sides; 15]) -> String {
     let titles = [
         "zone",
         "band",
@@ -31,7 +31,7 @@ fn band_table(amounts: &[Sides; 15], bands: &[Sides; 15]) -> String {
                 band.to_string(),
                 span(&ORDINARY, band),
                 span(&LOW_COUPON, band),
-                places(WEIGHTS[band], 2) + "%",
+                places(weights[band], 2) + "%",
                 whole(amounts[band].0),
                 whole(amounts[band].1),
                 weighted(long),
@@ -85,19 +85,25 @@ fn step_table(steps: &[Step], ladder: &InterestLadder) -> String {
 }
 
 /// The ladder of one currency, or where it disagrees with the library.
-pub fn show(rows: &[Row], group: u64, ladder: &InterestLadder) -> Result<String, String> {
+pub fn show(
+    rows: &[Row],
+    group: u64,
+    table: &Table,
+    ladder: &InterestLadder,
+) -> Result<String, String> {
+    let weights = table.weights();
     let amounts = amounts(rows, group);
     let mut bands = amounts;
-    for (sides, weight) in bands.iter_mut().zip(WEIGHTS) {
+    for (sides, weight) in bands.iter_mut().zip(weights.map(i128::from)) {
         *sides = (sides.0 * weight, sides.1 * weight);
     }
-    let (steps, rest) = steps(&bands);
-    let lines = adding_up::interest(rows, group, ladder);
+    let (steps, rest) = steps(&bands, &table.per_cents());
+    let lines = adding_up::interest(rows, group, table, ladder);
     hold(cross_check(&bands, &steps, rest, ladder), &lines)?;
     Ok(format!(
         "currency {group}: amounts in thousands, weighted positions and charges in currency units\n\n\
          {}\n{}\n{}",
-        band_table(&amounts, &bands),
+        band_table(&weights, &amounts, &bands),
         step_table(&steps, ladder),
         adding_up::show(&lines)
     ))
@@ -126,10 +132,20 @@ mod tests {
     }
 
     /// The library's figures of currency 7.
-    fn library(rows: &[Row]) -> InterestLadder {
+    fn library(rows: &[Row], table: &Table) -> InterestLadder {
         let mut book = Book::default();
         book.classes[0] = rows.to_vec();
-        market_risk::interest_ladder(&book.encode().unwrap(), 7).unwrap()
+        market_risk::interest_ladder(&book.encode().unwrap(), table, 7).unwrap()
+    }
+
+    /// Document 01's table, and one that has no figure of it.
+    fn tables() -> [Table; 2] {
+        let mut other = [0; 36];
+        for band in 0..15 {
+            other[2 * band] = 11 + 15 * band as u8;
+        }
+        other[30..].copy_from_slice(&[5, 35, 45, 55, 65, 95]);
+        [Table::amendment(), Table::new(&other).unwrap()]
     }
 
     /// Each figure of a ladder, by the name that its check has.
@@ -150,21 +166,67 @@ mod tests {
     #[test]
     fn a_wrong_figure_of_the_library_is_named() {
         for rows in [rows(100, 6, 3), rows(10, 16, 13)] {
-            let right = library(&rows);
-            assert!(show(&rows, 7, &right).is_ok());
-            for (name, figure) in FIGURES {
-                for by in [1, 1 << 40] {
-                    let mut wrong = right;
-                    *figure(&mut wrong) += by;
-                    let told = show(&rows, 7, &wrong).unwrap_err();
-                    assert!(told.starts_with(&format!("{name}: ")), "{name}: {told}");
-                    // A mil more lies within the bounds of the charge.
-                    let within = (name, by) == ("charge", 1);
-                    let adds_up = !told.contains("\ndoes not add up: ");
-                    assert_eq!(adds_up, within, "{name}: {told}");
-                }
+            for table in tables() {
+                let right = library(&rows, &table);
+                assert!(show(&rows, 7, &table, &right).is_ok());
+                each_figure_is_named(&rows, &table, right);
+                assert!(show(&rows, 7, &table, &InterestLadder::default()).is_err());
             }
-            assert!(show(&rows, 7, &InterestLadder::default()).is_err());
+        }
+    }
+
+    /// Makes each figure of a right ladder wrong, which must be told by its name.
+    fn each_figure_is_named(rows: &[Row], table: &Table, right: InterestLadder) {
+        for (name, figure) in FIGURES {
+            for by in [1, 1 << 40] {
+                let mut wrong = right;
+                *figure(&mut wrong) += by;
+                let told = show(rows, 7, table, &wrong).unwrap_err();
+                assert!(told.starts_with(&format!("{name}: ")), "{name}: {told}");
+                // A mil more lies within the bounds of the charge.
+                let within = (name, by) == ("charge", 1);
+                let adds_up = !told.contains("\ndoes not add up: ");
+                assert_eq!(adds_up, within, "{name}: {told}");
+            }
+        }
+    }
+
+    /// Catches a ladder that is drawn by document 01's weights or per cents whatever is loaded.
+    #[test]
+    fn a_ladder_under_another_table_is_told() {
+        let [amendment, other] = tables();
+        let rows = rows(100, 6, 3);
+        for (drawn, given) in [(amendment, other), (other, amendment)] {
+            assert!(show(&rows, 7, &drawn, &library(&rows, &given)).is_err());
+        }
+        let mut mixed = *amendment.bytes();
+        mixed[30..].copy_from_slice(&other.bytes()[30..]);
+        let mixed = Table::new(&mixed).unwrap();
+        let told = show(&rows, 7, &amendment, &library(&rows, &mixed)).unwrap_err();
+        assert!(told.starts_with("charge: "), "{told}");
+    }
+
+    /// Catches a weight or a per cent that is printed as document 01 has it: band 3 bears 56
+    /// basis points, 100 of it 560 currency units; within bands 4 at 26 bear 5%.
+    #[test]
+    fn what_is_printed_follows_the_table() {
+        let [_, other] = tables();
+        let rows = rows(100, 6, 3);
+        let text = show(&rows, 7, &other, &library(&rows, &other)).unwrap();
+        let squeezed = |line: &str| line.split_whitespace().collect::<Vec<_>>().join(" ");
+        let lines: Vec<String> = text.lines().map(squeezed).collect();
+        for line in [
+            "1 3 181-360 181-360 0.56% 100 0 560.0 0.0 0.0 560.0",
+            "3 14 - over 7,200 2.21% 0 0 0.0 0.0 0.0 0.0",
+            "within bands 10.4 5% 0.520",
+        ] {
+            assert!(
+                lines.iter().any(|printed| printed == line),
+                "{line}\n{text}"
+            );
+        }
+        for per_cent in ["35%", "45%", "55%", "65%", "95%"] {
+            assert!(text.contains(&format!(" {per_cent} ")), "{per_cent}");
         }
     }
 
@@ -172,17 +234,18 @@ mod tests {
     #[test]
     fn a_row_too_few_or_in_another_place_is_told() {
         let rows = rows(100, 6, 3);
-        let right = library(&rows);
+        let table = Table::amendment();
+        let right = library(&rows, &table);
         for at in 0..rows.len() {
             let mut fewer = rows.clone();
             fewer.remove(at);
-            assert!(show(&fewer, 7, &right).is_err(), "row {at}");
+            assert!(show(&fewer, 7, &table, &right).is_err(), "row {at}");
             let mut moved = rows.clone();
             moved[at].days += 1_000;
-            assert!(show(&moved, 7, &right).is_err(), "row {at}");
+            assert!(show(&moved, 7, &table, &right).is_err(), "row {at}");
             let mut mirrored = rows.clone();
             mirrored[at] = mirrored[at].mirrored();
-            assert!(show(&mirrored, 7, &right).is_err(), "row {at}");
+            assert!(show(&mirrored, 7, &table, &right).is_err(), "row {at}");
         }
     }
 }

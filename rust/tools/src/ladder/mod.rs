@@ -9,14 +9,15 @@ mod steps;
 use crate::cli::{no, usage, Args, Command, Failure, Outcome};
 use crate::files::{input, print, read_book};
 use crate::report::explain;
+use crate::table::Loaded;
 use adding_up::{broken, Line};
 use books::Book;
-use market_risk::Refusal;
+use market_risk::{Refusal, Table};
 
 pub const COMMAND: Command = Command {
     name: "ladder",
     brief: "the ladder of one currency or commodity as a table",
-    help: "market-risk ladder BOOK --currency N
+    help: "market-risk ladder BOOK --currency N [--table FILE]
 market-risk ladder BOOK --commodity N
 
 Prints the ladder of currency or commodity N, 0 to 31, so that it can be checked by
@@ -38,8 +39,13 @@ Amounts are in thousands, weighted positions and charges in currency units. Matc
 residual, what is carried and charge are the proved library's. The rows are added up here,
 by bands for the table and one by one for the last lines, and the command fails if they do
 not lead to the library's figures or if a line does not hold.
+
+  --table FILE   draws a currency's ladder under this table, 36 bytes or text as
+                 market-risk table --help tells, in the place of document 01's; where it is
+                 another, it is shown above the ladder. A refused table is told with the
+                 conditions that it breaks, and the exit status is 1
 ",
-    options: &["--currency", "--commodity"],
+    options: &["--currency", "--commodity", "--table"],
     flags: &[],
     run,
 };
@@ -63,33 +69,48 @@ fn hold(cross_check: Result<(), String>, lines: &[Line]) -> Result<(), String> {
     }
 }
 
-/// The ladder that the options ask for.
-fn ladder(bytes: &[u8], currency: Option<u64>, commodity: Option<u64>) -> Result<String, Failure> {
-    let refused = |refusal: Refusal| no(explain(bytes, &refusal));
+/// The ladder of a currency or of a commodity.
+enum Wanted {
+    Currency(u64),
+    Commodity(u64),
+}
+
+/// What the options ask for.
+fn wanted(args: &Args) -> Result<Wanted, Failure> {
+    match (args.number("--currency")?, args.number("--commodity")?) {
+        (Some(number), None) => Ok(Wanted::Currency(number)),
+        (None, Some(_)) if args.path("--table").is_some() => {
+            Err(usage("ladder: the ladder of a commodity takes no table"))
+        }
+        (None, Some(number)) => Ok(Wanted::Commodity(number)),
+        _ => Err(usage("ladder: give one of --currency N and --commodity N")),
+    }
+}
+
+/// The ladder as text, or why there is none.
+fn ladder(bytes: &[u8], wanted: Wanted, table: &Table) -> Result<String, String> {
+    let refused = |refusal: Refusal| explain(bytes, &refusal);
     let rows = |class: usize| Book::decode(bytes).unwrap_or_default().classes[class].clone();
     let group = |number: u64| usize::try_from(number).unwrap_or(usize::MAX);
-    match (currency, commodity) {
-        (Some(number), None) => {
-            let ladder = market_risk::interest_ladder(bytes, group(number)).map_err(refused)?;
-            interest::show(&rows(0), number, &ladder).map_err(no)
+    match wanted {
+        Wanted::Currency(number) => {
+            let ladder = market_risk::interest_ladder(bytes, table, group(number));
+            interest::show(&rows(0), number, table, &ladder.map_err(refused)?)
         }
-        (None, Some(number)) => {
-            let ladder = market_risk::commodity_ladder(bytes, group(number)).map_err(refused)?;
-            commodity::show(&rows(3), number, &ladder).map_err(no)
+        Wanted::Commodity(number) => {
+            let ladder = market_risk::commodity_ladder(bytes, group(number));
+            commodity::show(&rows(3), number, &ladder.map_err(refused)?)
         }
-        _ => Err(usage("ladder: give one of --currency N and --commodity N")),
     }
 }
 
 fn run(args: &Args) -> Outcome {
     let [path] = args.files()?;
-    let (currency, commodity) = (args.number("--currency")?, args.number("--commodity")?);
-    let bytes = read_book(path)?;
-    let named = |failure: Failure| Failure {
-        message: format!("{}: {}", input(path), failure.message),
-        ..failure
-    };
-    print(&ladder(&bytes, currency, commodity).map_err(named)?)
+    let wanted = wanted(args)?;
+    let loaded = Loaded::new(args, path)?;
+    let text = ladder(&read_book(path)?, wanted, &loaded.table);
+    let text = text.map_err(|why| no(format!("{}: {why}", input(path))))?;
+    print(&(loaded.note() + &text))
 }
 
 #[cfg(test)]
@@ -105,7 +126,7 @@ mod tests {
                 charge,
                 ..InterestLadder::default()
             };
-            adding_up::interest(&[], 0, &ladder)
+            adding_up::interest(&[], 0, &Table::amendment(), &ladder)
         };
         let (right, wrong) = (lines(0), lines(1));
         let line = "does not add up: 2 x charge 0.002 <= 0.0 gross + 0.0 residual";

@@ -3,7 +3,7 @@
 use super::bands::{band, column, ZONES};
 use super::same;
 use books::Row;
-use market_risk::InterestLadder;
+use market_risk::{InterestLadder, PerCents};
 
 /// Longs and shorts.
 pub type Sides = (i128, i128);
@@ -54,25 +54,27 @@ fn between(name: &'static str, zones: &mut [i128; 3], of: [usize; 2], per_cent: 
     step
 }
 
-/// All steps from the weighted bands, and the signed rest.
-pub fn steps(bands: &[Sides; 15]) -> (Vec<Step>, i128) {
+/// All steps from the weighted bands, at a table's per cents, and the signed rest.
+pub fn steps(bands: &[Sides; 15], per_cents: &PerCents) -> (Vec<Step>, i128) {
     let nets = bands.map(|(long, short)| long - short);
     let vertical = Step {
         name: "within bands",
         sides: None,
         matched: bands.iter().map(|(long, short)| long.min(short)).sum(),
-        per_cent: 10,
+        per_cent: per_cents.vertical.into(),
     };
+    let [in_1, in_2, in_3] = per_cents.zones.map(i128::from);
+    let [adjacent, apart] = [per_cents.adjacent, per_cents.zones_1_3].map(i128::from);
     let zone = |zone: usize| &nets[ZONES[zone].clone()];
     let mut zones = [0, 1, 2].map(|number| zone(number).iter().sum());
     let steps = vec![
         vertical,
-        step("within zone 1", zone(0), 40),
-        step("within zone 2", zone(1), 30),
-        step("within zone 3", zone(2), 30),
-        between("zones 1 and 2", &mut zones, [0, 1], 40),
-        between("zones 2 and 3", &mut zones, [1, 2], 40),
-        between("zones 1 and 3", &mut zones, [0, 2], 100),
+        step("within zone 1", zone(0), in_1),
+        step("within zone 2", zone(1), in_2),
+        step("within zone 3", zone(2), in_3),
+        between("zones 1 and 2", &mut zones, [0, 1], adjacent),
+        between("zones 2 and 3", &mut zones, [1, 2], adjacent),
+        between("zones 1 and 3", &mut zones, [0, 2], apart),
     ];
     (steps, zones.iter().sum())
 }
@@ -114,6 +116,7 @@ pub fn cross_check(
 mod tests {
     use super::*;
     use books::names::FLOATING;
+    use market_risk::Table;
 
     /// Weighted bands in which every step but that between zones 2 and 3 has a match.
     const BANDS: [Sides; 15] = {
@@ -161,7 +164,7 @@ mod tests {
         let check = |bands: &[Sides; 15], steps: &[Step], rest| {
             cross_check(bands, steps, rest, &LADDER).is_ok()
         };
-        let (mut steps, rest) = steps(&BANDS);
+        let (mut steps, rest) = steps(&BANDS, &Table::amendment().per_cents());
         assert!(check(&BANDS, &steps, rest));
         for band in 0..BANDS.len() {
             let mut wrong = BANDS;
@@ -183,5 +186,19 @@ mod tests {
             steps[at].per_cent = per_cent;
         }
         assert!(!check(&BANDS, &steps, rest + 1));
+    }
+
+    /// Catches a per cent that is another step's, or does not come from the table.
+    #[test]
+    fn each_step_has_its_own_per_cent() {
+        let per_cents = PerCents {
+            vertical: 1,
+            zones: [2, 3, 4],
+            adjacent: 5,
+            zones_1_3: 6,
+        };
+        let (steps, _) = steps(&BANDS, &per_cents);
+        let given: Vec<i128> = steps.iter().map(|step| step.per_cent).collect();
+        assert_eq!(given, [1, 2, 3, 4, 5, 5, 6]);
     }
 }

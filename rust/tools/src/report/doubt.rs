@@ -53,13 +53,15 @@ pub fn doubt(book: &Book, report: &Report) -> Option<String> {
 mod tests {
     use super::*;
     use books::Row;
+    use market_risk::Table;
 
     /// Other paper, long 1 at 270 days, in currencies 3 and 31, and its report: 8% and 0.70%.
     fn right() -> (Book, Report) {
         let row = Row::default().with_kind(3).with_days(270).with_sides(1, 0);
         let mut book = Book::default();
         book.classes[0] = [3, 31].map(|group| row.with_group(group)).to_vec();
-        let report = market_risk::charge(&book.encode().unwrap()).unwrap();
+        let book_bytes = book.encode().unwrap();
+        let report = market_risk::charge(&book_bytes, &Table::amendment()).unwrap();
         assert_eq!(report.interest_specific, 160_000);
         assert_eq!(report.interest_general, 14_000);
         assert_eq!(doubt(&book, &report), None);

@@ -152,7 +152,8 @@ mod tests {
             ..Row::default()
         });
         let bytes = book.encode().unwrap();
-        let refusal = market_risk::interest_ladder(&bytes, 32).unwrap_err();
+        let table = market_risk::Table::amendment();
+        let refusal = market_risk::interest_ladder(&bytes, &table, 32).unwrap_err();
         assert_eq!(
             explain(&bytes, &refusal),
             "refused 10: ladder group over 31"

@@ -6,6 +6,7 @@ mod explain;
 
 use crate::cli::{no, Args, Command, Outcome};
 use crate::files::{input, print, read_book};
+use crate::table::Loaded;
 use crate::text::{mils, table};
 use books::Book;
 use doubt::doubt;
@@ -16,7 +17,7 @@ pub use explain::explain;
 pub const COMMAND: Command = Command {
     name: "report",
     brief: "the six charges of a book and their total",
-    help: "market-risk report BOOK [--currencies]
+    help: "market-risk report BOOK [--table FILE] [--currencies]
 
 Prints the six charges of a book and their total in currency units, to the mil.
 A refused book is explained in words, with the fields of its row, and the exit
@@ -24,10 +25,14 @@ status is 1. The command fails too if the library took another number of rows th
 file has, if its six charges do not add up to its total, if its charges by currency do
 not add up to the two interest charges, or if a currency without interest rows has any.
 
+  --table FILE   charges interest under this table, 36 bytes or text as market-risk table
+                 --help tells, in the place of document 01's; where it is another, it is
+                 shown above the charges. A refused table is told with the conditions that
+                 it breaks, and the exit status is 1
   --currencies   then prints, below an empty line, the specific and the general charge
                  of each currency that has interest rows, both together, and the sums
 ",
-    options: &[],
+    options: &["--table"],
     flags: &["--currencies"],
     run,
 };
@@ -59,12 +64,14 @@ fn text(book: &Book, report: &Report, by_currency: bool) -> Result<String, Strin
 
 fn run(args: &Args) -> Outcome {
     let [path] = args.files()?;
+    let loaded = Loaded::new(args, path)?;
     let bytes = read_book(path)?;
-    let charged = market_risk::charge(&bytes);
+    let charged = market_risk::charge(&bytes, &loaded.table);
     let explained = charged.map_err(|refusal| explain(&bytes, &refusal));
     let book = Book::decode(&bytes).unwrap_or_default();
     let text = explained.and_then(|report| text(&book, &report, args.flag("--currencies")));
-    print(&text.map_err(|why| no(format!("{}: {why}", input(path))))?)
+    let text = text.map_err(|why| no(format!("{}: {why}", input(path))))?;
+    print(&(loaded.note() + &text))
 }
 
 #[cfg(test)]

@@ -12,24 +12,35 @@ fn checksum(bytes: &[u8]) -> u64 {
     bytes.iter().fold(0, step)
 }
 
-/// The name of a call and its figures, by a calculation.
+/// The figures of a charge by a table.
+fn charge(by: &dyn Calls, book: &[u8], table: &[u8]) -> (&'static str, Vec<u64>) {
+    let mut out = [0; 75];
+    by.charge(book, table, &mut out);
+    ("charge", out.to_vec())
+}
+
+/// The figures of an interest ladder by a table.
+fn ladder(by: &dyn Calls, book: &[u8], table: &[u8], group: u16) -> (&'static str, Vec<u64>) {
+    let mut out = [0; 13];
+    by.interest_ladder(book, table, group.into(), &mut out);
+    ("interest-ladder", out.to_vec())
+}
+
+/// The name of a call and its figures, by a calculation and its own table of document 01.
 fn answer(by: &dyn Calls, case: &Case) -> (&'static str, Vec<u64>) {
     let book = &case.book;
-    let (mut check, mut charge, mut result) = ([0; 3], [0; 75], [0; 4]);
-    let (mut interest, mut commodity) = ([0; 13], [0; 7]);
+    let (mut check, mut commodity, mut result) = ([0; 3], [0; 7], [0; 4]);
+    let mut table_01 = [0; 36];
+    by.table(&mut table_01);
     match &case.call {
         Call::Check => {
             by.check(book, &mut check);
             ("check", check.to_vec())
         }
-        Call::Charge => {
-            by.charge(book, &mut charge);
-            ("charge", charge.to_vec())
-        }
-        Call::InterestLadder(group) => {
-            by.interest_ladder(book, usize::from(*group), &mut interest);
-            ("interest-ladder", interest.to_vec())
-        }
+        Call::Charge => charge(by, book, &table_01),
+        Call::ChargeBy { table } => charge(by, book, table),
+        Call::InterestLadder(group) => ladder(by, book, &table_01, *group),
+        Call::InterestLadderBy { table, group } => ladder(by, book, table, *group),
         Call::CommodityLadder(group) => {
             by.commodity_ladder(book, usize::from(*group), &mut commodity);
             ("commodity-ladder", commodity.to_vec())
@@ -39,6 +50,7 @@ fn answer(by: &dyn Calls, case: &Case) -> (&'static str, Vec<u64>) {
             by.join(book, other, &mut out, &mut result);
             ("join", [&result[..], &[checksum(&out)]].concat())
         }
+        Call::Table => ("table", table_01.map(u64::from).to_vec()),
     }
 }
 
@@ -63,7 +75,7 @@ fn lines_by(by: &dyn Calls, cases: &[Case]) -> String {
 
 #[cfg(test)]
 mod tests {
-    use super::super::build::{call, join, row};
+    use super::super::build::{call, charge_by, join, ladder_by, row};
     use super::*;
     use crate::calls::Proved;
 
@@ -99,6 +111,10 @@ mod tests {
             call(Call::InterestLadder(32), &book),
             call(Call::CommodityLadder(3), &book),
             join(&[0; 8], &[0; 8], 8),
+            charge_by(&[0; 36], &book),
+            charge_by(&[0; 35], &book),
+            ladder_by(&[9; 36], 3, &book),
+            call(Call::Table, &[]),
         ];
         let (sum, lists) = (checksum(&[0; 8]), " 0".repeat(64));
         let expected = format!(
@@ -106,7 +122,12 @@ mod tests {
              charge 0 0 0 0 0 8800000 4800000 0 0 13600000 2{lists}\n\
              interest-ladder 10 0 0 0 0 0 0 0 0 0 0 0 0\n\
              commodity-ladder 0 0 0 0 0 0 0\n\
-             join 0 0 0 8 {sum}\n"
+             join 0 0 0 8 {sum}\n\
+             charge 0 0 0 0 0 8800000 4800000 0 0 13600000 2{lists}\n\
+             charge 18 0 0 0 0 0 0 0 0 0 0{lists}\n\
+             interest-ladder 19 0 0 0 0 0 0 0 0 0 0 0 0\n\
+             table 0 0 20 0 40 0 70 0 125 0 175 0 225 0 19 1 69 1 119 1 194 1 13 2 88 2 32 3 226 4 \
+             10 40 30 30 40 100\n"
         );
         assert_eq!(lines(&cases), expected);
     }

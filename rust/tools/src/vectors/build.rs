@@ -2,7 +2,8 @@
 
 use books::{Book, Row};
 
-/// A call, with what it is given besides its first book.
+/// A call, with what it is given besides its first book. Where no table is given, the charge
+/// and the interest ladder are under document 01's.
 #[derive(Clone, Debug, PartialEq, Eq)]
 pub enum Call {
     Check,
@@ -10,6 +11,9 @@ pub enum Call {
     InterestLadder(u16),
     CommodityLadder(u16),
     Join { other: Vec<u8>, room: u32 },
+    ChargeBy { table: Vec<u8> },
+    InterestLadderBy { table: Vec<u8>, group: u16 },
+    Table,
 }
 
 /// One stored call.
@@ -25,6 +29,18 @@ pub fn call(call: Call, book: &[u8]) -> Case {
         call,
         book: book.to_vec(),
     }
+}
+
+/// The charge of a book by a table.
+pub fn charge_by(table: &[u8], book: &[u8]) -> Case {
+    let table = table.to_vec();
+    call(Call::ChargeBy { table }, book)
+}
+
+/// The interest ladder of a book by a table.
+pub fn ladder_by(table: &[u8], group: u16, book: &[u8]) -> Case {
+    let table = table.to_vec();
+    call(Call::InterestLadderBy { table, group }, book)
 }
 
 /// A join with so much room.

@@ -73,6 +73,11 @@ fn bytes(bodies: &[Vec<Row>; 4]) -> Vec<u8> {
     book(bodies.each_ref().map(|body| &body[..]))
 }
 
+/// The book of all classes.
+pub fn mixed_book() -> Vec<u8> {
+    bytes(&mixed())
+}
+
 /// The mixed book refused at its last row, with each of 4 to 9, and at its first.
 fn spoiled() -> Vec<Vec<u8>> {
     let last = mixed()[3][799];
@@ -97,7 +102,7 @@ fn spoiled() -> Vec<Vec<u8>> {
 /// All of them.
 pub fn cases() -> Vec<Case> {
     let mut cases = Vec::new();
-    for book in accepted().iter().chain(&[bytes(&mixed())]) {
+    for book in accepted().iter().chain(&[mixed_book()]) {
         cases.extend(all_calls(book, &[31]));
     }
     for book in refused().iter().chain(&spoiled()) {
@@ -131,7 +136,7 @@ mod tests {
     /// Catches a mixed book that is not accepted, or a figure of it that is nothing.
     #[test]
     fn every_figure_of_the_mixed_book_is_stored() {
-        let line = lines(&[call(Call::Charge, &bytes(&mixed()))]);
+        let line = lines(&[call(Call::Charge, &mixed_book())]);
         let figures: Vec<&str> = line.split_whitespace().collect();
         assert_eq!(figures[..4], ["charge", "0", "0", "0"]);
         assert_eq!(figures.len(), 76);
@@ -139,7 +144,7 @@ mod tests {
         assert_eq!(figures[11], "4000");
         let stored = cases();
         let charged = |book: &[u8]| stored.contains(&call(Call::Charge, book));
-        assert!(charged(&bytes(&mixed())));
+        assert!(charged(&mixed_book()));
         assert!(spoiled().iter().all(|book| charged(book)));
     }
 }

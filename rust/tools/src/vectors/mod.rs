@@ -9,10 +9,12 @@ mod floating;
 mod full;
 mod joins;
 mod ladders;
+mod loaded;
 #[cfg(test)]
 mod page;
 mod random;
 mod stream;
+mod tables;
 mod worked;
 
 use crate::cli::{no, usage, Args, Command, Outcome};
@@ -29,7 +31,7 @@ Makes the calls of the program vectors: DIR/stdin, a stream of calls with their 
 and DIR/stdout, one line a call, as the second calculation answers it. docs/VECTORS.md
 has the form of both.
 
-  --seed S      the seed of the random books among them, 1 if not given
+  --seed S      the seed of the random books and tables among them, 1 if not given
   --write DIR   write both files
   --check DIR   exit with status 1 if either file is not what --write would write
 ",
@@ -50,6 +52,8 @@ fn cases(seed: u64) -> Vec<Case> {
         currencies::cases(),
         floating::cases(),
         random::cases(seed),
+        tables::cases(),
+        loaded::cases(seed),
     ]
     .concat()
 }
@@ -106,7 +110,7 @@ mod tests {
         }));
         assert!(books.len() >= 300, "{} books", books.len());
         let [(_, stdin), (_, stdout)] = files(1);
-        assert!(stdin.len() < 300_000, "{} bytes", stdin.len());
+        assert!(stdin.len() < 330_000, "{} bytes", stdin.len());
         assert!(stdout.len() < 300_000, "{} bytes", stdout.len());
     }
 
@@ -130,6 +134,10 @@ mod tests {
             }
         }
         assert!(seen("interest-ladder", 10) && seen("commodity-ladder", 10));
+        for call in ["charge", "interest-ladder"] {
+            assert!(seen(call, 18) && seen(call, 19), "{call}");
+        }
+        assert!(lines.lines().any(|line| line.starts_with("table ")));
         assert!(seen("join", 11) && seen("join", 12));
     }
 

@@ -1,7 +1,7 @@
 //! docs/VECTORS.md against what is stored in crates/vectors: a reader as the page
 //! describes it, and the sizes that it states.
 
-use super::build::{Call, Case};
+use super::build::{call, Call, Case};
 use std::collections::HashSet;
 
 /// What is left of a stream.
@@ -24,6 +24,12 @@ impl Reader<'_> {
             .fold(0, |high, byte| high * 256 + usize::from(*byte))
     }
 
+    fn table(&mut self) -> Vec<u8> {
+        let length = self.number(2);
+        assert!(length <= 256);
+        self.take(length)
+    }
+
     fn book(&mut self, length: usize, runs: bool) -> Vec<u8> {
         if !runs {
             return self.take(length);
@@ -44,27 +50,27 @@ impl Reader<'_> {
         if tag == 0 {
             return None;
         }
+        if tag == 8 {
+            return Some(call(Call::Table, &[]));
+        }
         if tag == 5 {
             let (room, a, b) = (self.number(4), self.number(4), self.number(4));
             let (book, other) = (self.book(a, runs), self.book(b, runs));
             let room = room as u32;
-            return Some(Case {
-                call: Call::Join { other, room },
-                book,
-            });
+            return Some(call(Call::Join { other, room }, &book));
         }
+        let table = if tag >= 6 { self.table() } else { vec![] };
         let (group, length) = (self.number(2) as u16, self.number(4));
-        let call = match tag {
+        let which = match tag {
             1 => Call::Check,
             2 => Call::Charge,
             3 => Call::InterestLadder(group),
             4 => Call::CommodityLadder(group),
+            6 => Call::ChargeBy { table },
+            7 => Call::InterestLadderBy { table, group },
             _ => panic!("no tag {tag}"),
         };
-        Some(Case {
-            call,
-            book: self.book(length, runs),
-        })
+        Some(call(which, &self.book(length, runs)))
     }
 }
 
@@ -84,6 +90,15 @@ fn books(cases: &[Case]) -> usize {
     });
     let books = cases.iter().map(|case| &case.book);
     books.chain(others).collect::<HashSet<_>>().len()
+}
+
+/// The different tables of some calls.
+fn tables(cases: &[Case]) -> usize {
+    let tables = cases.iter().filter_map(|case| match &case.call {
+        Call::ChargeBy { table } | Call::InterestLadderBy { table, .. } => Some(table),
+        _ => None,
+    });
+    tables.collect::<HashSet<_>>().len()
 }
 
 /// A file of the repository.
@@ -106,15 +121,26 @@ fn the_page_states_the_sizes_of_what_is_stored() {
     let cases = read(&stdin);
     let lines = stdout.iter().filter(|byte| **byte == b'\n').count();
     assert_eq!(cases.len(), lines);
-    let [calls, books] = [cases.len(), books(&cases)].map(thousands);
+    let [calls, books, tables] = [cases.len(), books(&cases), tables(&cases)].map(thousands);
     let [read, written] = [stdin.len(), stdout.len()].map(thousands);
     let stated = format!(
-        "{calls} calls on {books} different books: `stdin` has {read} bytes and `stdout` {written}."
+        "{calls} calls on {books} different books, some by {tables} different tables: `stdin` has \
+         {read} bytes and `stdout` {written}."
     );
     let page = String::from_utf8(stored("docs/VECTORS.md")).unwrap();
+    let page = page.split_whitespace().collect::<Vec<_>>().join(" ");
     assert_eq!(page.matches(&stated).count(), 1, "{stated}");
-    let random = format!("- {} random books of the seed,", super::random::BOOKS);
-    assert_eq!(page.matches(&random).count(), 1, "{random}");
+    let (books, tables) = (super::loaded::BOOKS, super::loaded::TABLES);
+    for random in [
+        format!(
+            "- {} random books of the seed, each damaged",
+            super::random::BOOKS
+        ),
+        format!("- {books} random books of the seed, each under a random table"),
+        format!("and {tables} random ones of the seed;"),
+    ] {
+        assert_eq!(page.matches(&random).count(), 1, "{random}");
+    }
 }
 
 /// Catches stored files that are not those of the second calculation, for seed 1.

@@ -38,28 +38,39 @@ fn length(book: &[u8]) -> [u8; 4] {
     length.to_le_bytes()
 }
 
-/// One call: tag, numbers, books.
+/// A table, after its length in two bytes.
+fn with_length(table: &[u8]) -> Vec<u8> {
+    let length = u16::try_from(table.len()).expect("a table of at most 256 bytes");
+    [&length.to_le_bytes(), table].concat()
+}
+
+/// A call of one book: tag, table where the record has one, group, length, book.
+fn of_book(tag: u8, table: &[u8], group: u16, book: &[u8]) -> Vec<u8> {
+    let (form, bytes) = shorter(&[book]);
+    let (group, length) = (group.to_le_bytes(), length(book));
+    [&[tag + form][..], table, &group, &length, &bytes].concat()
+}
+
+/// A join: tag, lengths, books.
+fn of_join(a: &[u8], b: &[u8], room: u32) -> Vec<u8> {
+    let (form, books) = shorter(&[a, b]);
+    let numbers = [room.to_le_bytes(), length(a), length(b)];
+    [&[5 + form][..], &numbers.concat(), &books].concat()
+}
+
+/// One call.
 fn record(case: &Case) -> Vec<u8> {
-    let (tag, group) = match &case.call {
-        Call::Check => (1, 0),
-        Call::Charge => (2, 0),
-        Call::InterestLadder(group) => (3, *group),
-        Call::CommodityLadder(group) => (4, *group),
-        Call::Join { other, room } => {
-            let (form, books) = shorter(&[&case.book, other]);
-            let numbers = [room.to_le_bytes(), length(&case.book), length(other)];
-            return [&[5 + form][..], &numbers.concat(), &books].concat();
-        }
-    };
-    let (form, bytes) = shorter(&[&case.book]);
-    let group: u16 = group;
-    [
-        &[tag + form][..],
-        &group.to_le_bytes(),
-        &length(&case.book),
-        &bytes,
-    ]
-    .concat()
+    let book = &case.book;
+    match &case.call {
+        Call::Check => of_book(1, &[], 0, book),
+        Call::Charge => of_book(2, &[], 0, book),
+        Call::InterestLadder(group) => of_book(3, &[], *group, book),
+        Call::CommodityLadder(group) => of_book(4, &[], *group, book),
+        Call::Join { other, room } => of_join(book, other, *room),
+        Call::ChargeBy { table } => of_book(6, &with_length(table), 0, book),
+        Call::InterestLadderBy { table, group } => of_book(7, &with_length(table), *group, book),
+        Call::Table => vec![8],
+    }
 }
 
 /// All calls, and the tag that ends the stream.
@@ -71,6 +82,7 @@ pub fn encode(cases: &[Case]) -> Vec<u8> {
 
 #[cfg(test)]
 mod tests {
+    use super::super::build::{call, charge_by, ladder_by};
     use super::super::cases;
     use super::super::page::read;
     use super::*;
@@ -83,13 +95,36 @@ mod tests {
     }
 
     #[test]
-    fn books_and_outputs_fit_a_buffer_of_65_536_bytes() {
+    fn books_and_outputs_fit_65_536_bytes_and_tables_256() {
         for case in cases(2) {
             assert!(case.book.len() <= 65_536);
-            if let Call::Join { other, room } = &case.call {
-                assert!(other.len() <= 65_536 && *room <= 65_536);
+            match &case.call {
+                Call::Join { other, room } => {
+                    assert!(other.len() <= 65_536 && *room <= 65_536);
+                }
+                Call::ChargeBy { table } | Call::InterestLadderBy { table, .. } => {
+                    assert!(table.len() <= 256);
+                }
+                _ => (),
             }
         }
+    }
+
+    /// Catches a table in another place than the page gives it, and runs that are not told.
+    #[test]
+    fn a_table_comes_after_the_tag() {
+        let ladder = ladder_by(&[1, 2, 3], 258, &[0; 8]);
+        let record = [7, 3, 0, 1, 2, 3, 2, 1, 8, 0, 0, 0];
+        assert_eq!(super::record(&ladder), [&record[..], &[0; 8]].concat());
+        let book = [&[2, 0, 0, 0, 0, 0, 0, 0][..], &[5; 32]].concat();
+        let runs = [
+            &[0x86, 0, 0, 0, 0, 40, 0, 0, 0][..],
+            &book[..8],
+            &[2, 0],
+            &[5; 16],
+        ];
+        assert_eq!(super::record(&charge_by(&[], &book)), runs.concat());
+        assert_eq!(super::record(&call(Call::Table, &[])), [8]);
     }
 
     #[test]

@@ -33,21 +33,30 @@ fn examples() -> Vec<Vec<u8>> {
     ]
 }
 
+/// The books of E4: two, and their join.
+fn e4_books() -> [Vec<u8>; 3] {
+    let a = [bond(270, 75), bond(900, -30)];
+    let b = [bond(900, 30), bond(6000, -10)];
+    [only(0, &a), only(0, &b), only(0, &[a, b].concat())]
+}
+
 /// E4: two books and their join.
 fn e4() -> Vec<Case> {
-    let a = only(0, &[bond(270, 75), bond(900, -30)]);
-    let b = only(0, &[bond(900, 30), bond(6000, -10)]);
-    let both = [
-        bond(270, 75),
-        bond(900, -30),
-        bond(900, 30),
-        bond(6000, -10),
-    ];
-    let mut cases = vec![join(&a, &b, a.len() + b.len() - 8)];
-    for book in [a, b, only(0, &both)] {
+    let [a, b, joined] = e4_books();
+    let mut cases = vec![join(&a, &b, joined.len())];
+    for book in [a, b, joined] {
         cases.extend(all_calls(&book, &[7]));
     }
     cases
+}
+
+/// The books with interest rows: E2, E3, a book like it, and E4's three.
+pub fn interest_books() -> Vec<Vec<u8>> {
+    let [_, _, e2, e3, like_e3, ..] = &examples()[..] else {
+        unreachable!("seven examples");
+    };
+    let e2_and_e3 = [e2, e3, like_e3].map(Vec::clone);
+    e2_and_e3.into_iter().chain(e4_books()).collect()
 }
 
 /// E9 and E10: the largest amount, and too many rows in eight bytes.

@@ -2,7 +2,7 @@
 
 use super::{amount, decimal, mils, sides, span};
 use books::{Book, Row};
-use second::{interest_band, interest_weight, zone_of_band, InterestLadder};
+use second::{interest_band, read_table, zone_of_band, InterestLadder, Table};
 
 /// Longs and shorts.
 type Sides = (i128, i128);
@@ -22,8 +22,7 @@ fn amounts(rows: &[Row], group: usize) -> Vec<Sides> {
 }
 
 /// One line of a band: zone, days of both columns, weight, amounts, weighted positions.
-fn band_line(band: usize, (long, short): Sides) -> String {
-    let weight = interest_weight(band);
+fn band_line(band: usize, weight: i128, (long, short): Sides) -> String {
     let cells = [
         zone_of_band(band).to_string(),
         band.to_string(),
@@ -49,8 +48,8 @@ fn split(nets: &[i128]) -> Sides {
 
 /// The sides of steps 2 and 3: three zones, then 1-2, 2-3 and 1-3 of what is left
 /// (A.1, 13). The second calculation gives the matches; the sides are worked here.
-fn step_sides(bands: &[Sides], matches: &[u64]) -> Vec<Sides> {
-    let net = |band: usize| (bands[band].0 - bands[band].1) * interest_weight(band);
+fn step_sides(bands: &[Sides], table: &Table, matches: &[u64]) -> Vec<Sides> {
+    let net = |band: usize| (bands[band].0 - bands[band].1) * table.weights[band];
     let zones = [0..4, 4..7, 7..15].map(|bands| bands.map(net).collect::<Vec<_>>());
     let mut sides: Vec<Sides> = zones.iter().map(|nets| split(nets)).collect();
     let mut left = zones.map(|nets| nets.iter().sum::<i128>());
@@ -66,18 +65,20 @@ fn step_sides(bands: &[Sides], matches: &[u64]) -> Vec<Sides> {
     sides
 }
 
-/// Document 01's table of steps: Table 2 for zones and pairs of zones (A.1, 13).
-const STEPS: [(&str, i128); 6] = [
-    ("within zone 1", 40),
-    ("within zone 2", 30),
-    ("within zone 3", 30),
-    ("zones 1 and 2", 40),
-    ("zones 2 and 3", 40),
-    ("zones 1 and 3", 100),
-];
+/// The steps of zones and pairs of zones (A.1, 13) with a table's per cents.
+fn horizontal(table: &Table) -> [(&'static str, i128); 6] {
+    [
+        ("within zone 1", table.zones[0]),
+        ("within zone 2", table.zones[1]),
+        ("within zone 3", table.zones[2]),
+        ("zones 1 and 2", table.adjacent),
+        ("zones 2 and 3", table.adjacent),
+        ("zones 1 and 3", table.zones_1_3),
+    ]
+}
 
-/// The lines of the steps; 10% within bands (A.1, 12), 100% of the residual (A.1, 8).
-fn step_lines(bands: &[Sides], ladder: &InterestLadder) -> Vec<String> {
+/// The lines of the steps: within bands (A.1, 12), horizontal, 100% of the residual (A.1, 8).
+fn step_lines(bands: &[Sides], table: &Table, ladder: &InterestLadder) -> Vec<String> {
     let matches = [
         ladder.zone_1,
         ladder.zone_2,
@@ -93,15 +94,14 @@ fn step_lines(bands: &[Sides], ladder: &InterestLadder) -> Vec<String> {
     };
     let mut lines = vec![
         "step long short matched per cent disallowance".to_string(),
-        format!("within bands {}", charged(ladder.vertical, 10)),
+        format!("within bands {}", charged(ladder.vertical, table.vertical)),
     ];
-    let sides = step_sides(bands, &matches);
-    for (((name, per_cent), (long, short)), matched) in STEPS.iter().zip(sides).zip(matches) {
+    let sides = step_sides(bands, table, &matches);
+    let steps = horizontal(table).into_iter().zip(sides).zip(matches);
+    for (((name, per_cent), (long, short)), matched) in steps {
         let (long, short) = (weighted(long), weighted(short));
-        lines.push(format!(
-            "{name} {long} {short} {}",
-            charged(matched, *per_cent)
-        ));
+        let charged = charged(matched, per_cent);
+        lines.push(format!("{name} {long} {short} {charged}"));
     }
     lines.push(format!("residual {}", charged(ladder.residual, 100)));
     lines.push(format!("charge {}", mils(ladder.charge)));
@@ -109,10 +109,10 @@ fn step_lines(bands: &[Sides], ladder: &InterestLadder) -> Vec<String> {
 }
 
 /// The weighted longs and the weighted shorts of a currency, row by row.
-fn weighted_sides(rows: &[Row], group: usize) -> Sides {
+fn weighted_sides(rows: &[Row], group: usize, table: &Table) -> Sides {
     let own = rows.iter().filter(|row| usize::from(row.group) == group);
     own.fold((0, 0), |(long, short), row| {
-        let weight = interest_weight(interest_band(row.days.into(), row.coupon.into()));
+        let weight = table.weights[interest_band(row.days.into(), row.coupon.into())];
         (
             long + weight * i128::from(row.long),
             short + weight * i128::from(row.short),
@@ -122,7 +122,7 @@ fn weighted_sides(rows: &[Row], group: usize) -> Sides {
 
 /// The last lines (document 02, P8). A position is matched on both its sides, or is left; what
 /// is left is the net of all; it bears 100%, and nothing bears more.
-fn adding_up_lines(rows: &[Row], group: usize, ladder: &InterestLadder) -> Vec<String> {
+fn adding_up_lines((long, short): Sides, ladder: &InterestLadder) -> Vec<String> {
     let matched = [
         ladder.vertical,
         ladder.zone_1,
@@ -133,7 +133,6 @@ fn adding_up_lines(rows: &[Row], group: usize, ladder: &InterestLadder) -> Vec<S
         ladder.zones_1_3,
     ];
     let matched = matched.map(i128::from).iter().sum::<i128>();
-    let (long, short) = weighted_sides(rows, group);
     let (gross, residual) = (long + short, long.max(short) - long.min(short));
     let charge = i128::from(ladder.charge);
     assert_eq!(
@@ -161,10 +160,11 @@ fn adding_up_lines(rows: &[Row], group: usize, ladder: &InterestLadder) -> Vec<S
     ]
 }
 
-/// All lines of a currency.
-pub fn interest(book: &Book, group: usize) -> Vec<String> {
+/// All lines of a currency under a table.
+pub fn interest(book: &Book, table: &[u8], group: usize) -> Vec<String> {
     let bands = amounts(&book.classes[0], group);
-    let ladder = second::interest_ladder(&book.encode().unwrap(), group);
+    let ladder = second::interest_ladder(&book.encode().unwrap(), table, group);
+    let table = read_table(table).unwrap();
     let units = "amounts in thousands, weighted positions and charges in currency units";
     let titles = "zone band coupon 3% or more below 3% weight long short \
                   weighted long weighted short matched net";
@@ -173,11 +173,12 @@ pub fn interest(book: &Book, group: usize) -> Vec<String> {
         "".into(),
         titles.into(),
     ];
-    let drawn = bands.iter().enumerate();
-    lines.extend(drawn.map(|(band, sides)| band_line(band, *sides)));
+    let drawn = bands.iter().zip(table.weights).enumerate();
+    lines.extend(drawn.map(|(band, (sides, weight))| band_line(band, weight, *sides)));
     lines.push("".into());
-    lines.extend(step_lines(&bands, &ladder));
+    lines.extend(step_lines(&bands, &table, &ladder));
     lines.push("".into());
-    lines.extend(adding_up_lines(&book.classes[0], group, &ladder));
+    let sides = weighted_sides(&book.classes[0], group, &table);
+    lines.extend(adding_up_lines(sides, &ladder));
     lines
 }

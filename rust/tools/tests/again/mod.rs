@@ -1,5 +1,5 @@
-//! The lines of reports and ladders calculated again, from document 01's tables and the
-//! second calculation. Nothing here is the command's own code.
+//! The lines of reports and ladders calculated again, from document 01's bands, a table's
+//! weights and per cents, and the second calculation. Nothing here is the command's own code.
 
 mod commodity;
 mod interest;
@@ -48,9 +48,24 @@ pub fn span(band_of: impl Fn(i128) -> usize, band: usize) -> String {
     }
 }
 
+/// The lines above the figures under a loaded table.
+pub fn note(name: &str, table: &[u8]) -> Vec<String> {
+    let table = second::read_table(table).unwrap();
+    let weights = table.weights.map(|weight| weight.to_string()).join(" ");
+    let [zone_1, zone_2, zone_3] = table.zones;
+    let (vertical, adjacent, between) = (table.vertical, table.adjacent, table.zones_1_3);
+    let zones = format!("zone-1 {zone_1}, zone-2 {zone_2}, zone-3 {zone_3}");
+    vec![
+        format!("under {name}, not document 01's table:"),
+        format!("weights {weights}"),
+        format!("vertical {vertical}, {zones}, adjacent {adjacent}, zones-1-3 {between}"),
+        "".into(),
+    ]
+}
+
 /// The lines of a report.
-pub fn report(book: &[u8]) -> Vec<String> {
-    let report = second::charge(book);
+pub fn report(book: &[u8], table: &[u8]) -> Vec<String> {
+    let report = second::charge(book, table);
     let lines = [
         ("interest specific", report.interest_specific),
         ("interest general", report.interest_general),
@@ -65,19 +80,19 @@ pub fn report(book: &[u8]) -> Vec<String> {
 }
 
 /// The two interest charges of a book of some interest rows, and nothing else.
-fn interest_charges(rows: Vec<Row>) -> [u64; 2] {
+fn interest_charges(rows: Vec<Row>, table: &[u8]) -> [u64; 2] {
     let mut book = Book::default();
     book.classes[0] = rows;
-    let report = second::charge(&book.encode().unwrap());
+    let report = second::charge(&book.encode().unwrap(), table);
     [report.interest_specific, report.interest_general]
 }
 
 /// The lines of a report with its currencies: each is charged as a book of its own, and the
 /// last line is that of the whole book.
-pub fn currencies(book: &Book) -> Vec<String> {
+pub fn currencies(book: &Book, table: &[u8]) -> Vec<String> {
     let rows = &book.classes[0];
     let line = |name: String, rows: Vec<Row>| {
-        let [specific, general] = interest_charges(rows);
+        let [specific, general] = interest_charges(rows, table);
         let figures = [specific, general, specific + general].map(mils);
         format!("{name} {}", figures.join(" "))
     };
@@ -88,7 +103,7 @@ pub fn currencies(book: &Book) -> Vec<String> {
             .collect()
     };
     let groups: BTreeSet<u8> = rows.iter().map(|row| row.group).collect();
-    let mut lines = report(&book.encode().unwrap());
+    let mut lines = report(&book.encode().unwrap(), table);
     lines.extend(["".into(), "currency specific general together".into()]);
     lines.extend(
         groups

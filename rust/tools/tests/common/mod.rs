@@ -21,12 +21,23 @@ pub fn run(words: &[&str]) -> Output {
     command.args(words).output().unwrap()
 }
 
-/// Runs the command, which must succeed, and gives what it prints.
-pub fn prints(words: &[&str]) -> String {
-    let output = run(words);
+/// What a command prints that must have succeeded.
+fn printed(words: &[&str], output: Output) -> String {
     let errors = String::from_utf8_lossy(&output.stderr);
     assert!(output.status.success(), "{words:?}: {errors}");
     String::from_utf8(output.stdout).unwrap()
+}
+
+/// Runs the command, which must succeed, and gives what it prints.
+pub fn prints(words: &[&str]) -> String {
+    printed(words, run(words))
+}
+
+/// The same in another folder.
+pub fn prints_in(folder: &str, words: &[&str]) -> String {
+    let mut command = Command::new(env!("CARGO_BIN_EXE_market-risk"));
+    command.current_dir(folder).args(words);
+    printed(words, command.output().unwrap())
 }
 
 /// Runs the command, which must fail with this status, and gives its error.

@@ -1,16 +1,20 @@
 /* The proved library with some calls taken out: STAND_IN names one of them, or is "all".
  * A call that is taken out writes zeros and no output. STAND_IN may also name a wrong count
  * of the rows taken by a charge, a fault of its lists of the currencies, a ladder that does not
- * add up, or a wrong reading of floating-rate notes. The archive's own calls have other names
- * here, proved_check and so on. */
+ * add up, a wrong reading of floating-rate notes, or a table that is not heeded, is accepted
+ * against its conditions or is tried out of its order. The archive's own calls have other
+ * names here, proved_check and so on. */
 #include "market_risk.h"
 
 #include <stdlib.h>
 #include <string.h>
 
 void proved_check(const uint8_t *book, size_t len, uint64_t *out);
-void proved_charge(const uint8_t *book, size_t len, uint64_t *out);
-void proved_interest_ladder(const uint8_t *book, size_t len, size_t group, uint64_t *out);
+void proved_table(uint8_t *out);
+void proved_charge(const uint8_t *book, size_t len, const uint8_t *table, size_t table_len,
+                   uint64_t *out);
+void proved_interest_ladder(const uint8_t *book, size_t len, const uint8_t *table,
+                            size_t table_len, size_t group, uint64_t *out);
 void proved_commodity_ladder(const uint8_t *book, size_t len, size_t group, uint64_t *out);
 void proved_join(const uint8_t *a, size_t a_len, const uint8_t *b, size_t b_len, uint8_t *out,
                  size_t out_len, uint64_t *result);
@@ -69,7 +73,8 @@ static void make_bond(uint8_t *note) {
 }
 
 /* Charges an accepted book by one of the two maturities of its floating-rate notes. */
-static void misread(const uint8_t *book, size_t len, uint64_t out[75]) {
+static void misread(const uint8_t *book, size_t len, const uint8_t *table, size_t table_len,
+                    uint64_t out[75]) {
     static uint8_t copy[8 + 4000 * 16];
     int at_fixing = named("specific_at_fixing");
     if (out[0] != 0 || !(at_fixing || named("ladder_at_final"))) return;
@@ -77,7 +82,57 @@ static void misread(const uint8_t *book, size_t len, uint64_t out[75]) {
     uint8_t *end = copy + 8 + 16 * (book[0] + 256 * book[1]);
     for (uint8_t *row = copy + 8; row < end; row += 16)
         if (row[1] == 4) (at_fixing ? end_at_fixing : make_bond)(row);
-    proved_charge(copy, len, out);
+    proved_charge(copy, len, table, table_len, out);
+}
+
+/* Whether a result refuses its table. */
+static int table_refused(const uint64_t *out) { return out[0] == 18 || out[0] == 19; }
+
+/* The table that a wrong library reads in the place of an accepted one: document 01's weights,
+ * its per cents, or both. */
+static void misload(const uint8_t *table, uint8_t out[36]) {
+    proved_table(out);
+    if (named("per_cents_alone")) memcpy(out + 30, table + 30, 6);
+    if (named("weights_alone")) memcpy(out, table, 30);
+}
+
+/* Whether an accepted table is read wrongly, or a refused one is charged under all the same:
+ * any of 36 bytes, or one refused where the book is refused too. */
+static int misloaded(const uint64_t *out) {
+    int heeded = !named("table_ignored") && !named("per_cents_alone") && !named("weights_alone");
+    if (out[0] == 0) return !heeded;
+    return (named("nineteen_accepted") && out[0] == 19) ||
+           (named("table_after_book") && table_refused(out));
+}
+
+/* The wrong table again, in a charge and in a ladder. A table that comes after the book is
+ * told of where the book has no fault. */
+static void mischarge(const uint8_t *book, size_t len, const uint8_t *table, uint64_t out[75]) {
+    uint8_t wrong[36];
+    uint64_t right[75];
+    if (!misloaded(out)) return;
+    memcpy(right, out, sizeof right);
+    misload(table, wrong);
+    proved_charge(book, len, wrong, sizeof wrong, out);
+    if (named("table_after_book") && out[0] == 0) memcpy(out, right, sizeof right);
+}
+static void misweigh(const uint8_t *book, size_t len, const uint8_t *table, size_t group,
+                     uint64_t out[13]) {
+    uint8_t wrong[36];
+    uint64_t right[13];
+    if (!misloaded(out)) return;
+    memcpy(right, out, sizeof right);
+    misload(table, wrong);
+    proved_interest_ladder(book, len, wrong, sizeof wrong, group, out);
+    if (named("table_after_book") && out[0] == 0) memcpy(out, right, sizeof right);
+}
+
+/* Tells of a refused table before the group. */
+static void misorder(const uint8_t *table, size_t table_len, uint64_t out[13]) {
+    uint64_t of_table[13];
+    if (!named("table_before_group") || out[0] != 10) return;
+    proved_interest_ladder(table, 0, table, table_len, 0, of_table);
+    if (table_refused(of_table)) memcpy(out, of_table, sizeof of_table);
 }
 
 /* Gives a broken floating-rate note the number of bad days. */
@@ -126,16 +181,27 @@ void market_risk_check(const uint8_t *book, size_t len, uint64_t out[3]) {
     mistell(out);
 }
 
-void market_risk_charge(const uint8_t *book, size_t len, uint64_t out[75]) {
-    if (!taken_out("charge", out, 75)) proved_charge(book, len, out);
-    misread(book, len, out);
+void market_risk_table(uint8_t out[36]) {
+    if (named("table") || named("all")) memset(out, 0, 36);
+    else proved_table(out);
+    if (named("table_changed")) out[35] = 99;
+}
+
+void market_risk_charge(const uint8_t *book, size_t len, const uint8_t *table,
+                        size_t table_len, uint64_t out[75]) {
+    if (!taken_out("charge", out, 75)) proved_charge(book, len, table, table_len, out);
+    misread(book, len, table, table_len, out);
+    mischarge(book, len, table, out);
     miscount(out);
     mislist(out);
 }
 
-void market_risk_interest_ladder(const uint8_t *book, size_t len, size_t group,
-                                 uint64_t out[13]) {
-    if (!taken_out("interest_ladder", out, 13)) proved_interest_ladder(book, len, group, out);
+void market_risk_interest_ladder(const uint8_t *book, size_t len, const uint8_t *table,
+                                 size_t table_len, size_t group, uint64_t out[13]) {
+    if (!taken_out("interest_ladder", out, 13))
+        proved_interest_ladder(book, len, table, table_len, group, out);
+    misweigh(book, len, table, group, out);
+    misorder(table, table_len, out);
     misladder(out);
 }
 

@@ -10,7 +10,8 @@ use Rattle.ladder.specs.Commodity.{commodityBandCount, commodityFigures}
 use Rattle.ladder.proofs.Carrying.{commodity-within}
 use Rattle.charges.specs.Inner.Slots.{groupCount}
 use Rattle.charges.specs.Inner.Tables.{mostGross, bandsFrom, grossFrom, commodityAt}
-use Rattle.charges.proofs.Listing.{FrontSum, front-none, front-next, front-room, front-all, used-sum, used-within, used-group}
+use Rattle.charges.proofs.Fronts.{FrontSum, front-none, front-next, front-room, front-all}
+use Rattle.charges.proofs.Listing.{used-sum, used-within, used-group}
 use Rattle.charges.proofs.general.commodity_general.Statement.{statement}
 use Rattle.charges.proofs.general.commodity_general.Tie as tie
 

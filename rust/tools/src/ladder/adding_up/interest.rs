@@ -3,15 +3,16 @@
 
 use super::Sign::{AtLeast, AtMost, Equal};
 use super::{by_matches, Line, Sides};
-use crate::ladder::bands::{band, column, WEIGHTS};
+use crate::ladder::bands::{band, column};
 use crate::text::{mils, weighted};
 use books::Row;
-use market_risk::InterestLadder;
+use market_risk::{InterestLadder, Table};
 
 /// The weighted longs and the weighted shorts of a currency's rows.
-fn sides(rows: &[Row], group: u64) -> Sides {
+fn sides(rows: &[Row], group: u64, table: &Table) -> Sides {
     let own = rows.iter().filter(|row| u64::from(row.group) == group);
-    let weight = |row: &Row| WEIGHTS[band(column(row), row.days)];
+    let weights = table.weights().map(i128::from);
+    let weight = |row: &Row| weights[band(column(row), row.days)];
     Sides {
         long: own
             .clone()
@@ -32,9 +33,9 @@ fn matched(ladder: &InterestLadder) -> i128 {
 
 /// The lines of a currency: gross by the matches and by the rows, the residual by the rows,
 /// and the two bounds of the charge.
-pub fn interest(rows: &[Row], group: u64, ladder: &InterestLadder) -> Vec<Line> {
+pub fn interest(rows: &[Row], group: u64, table: &Table, ladder: &InterestLadder) -> Vec<Line> {
     let [gross, residual, charge] = [ladder.gross, ladder.residual, ladder.charge].map(i128::from);
-    let all = sides(rows, group);
+    let all = sides(rows, group, table);
     let position = |value: i128| (value, weighted(value));
     let in_mils = |value: i128| (value, mils(value));
     let matched = by_matches(matched(ladder), residual, weighted);
@@ -83,7 +84,7 @@ mod tests {
     fn told(change: impl Fn(&mut InterestLadder)) -> Vec<String> {
         let mut ladder = LADDER;
         change(&mut ladder);
-        let told = broken(&interest(&keyed(), 7, &ladder)).collect::<Vec<_>>();
+        let told = broken(&interest(&keyed(), 7, &Table::amendment(), &ladder)).collect::<Vec<_>>();
         let what = |line: &String| line.strip_prefix("does not add up: ").unwrap().into();
         told.iter().map(what).collect()
     }
@@ -97,7 +98,7 @@ mod tests {
             "charge        735.000  >= 525.0 residual",
             "2 x charge  1,470.000  <= 1,575.0 gross + 525.0 residual",
         ];
-        let text = show(&interest(&keyed(), 7, &LADDER));
+        let text = show(&interest(&keyed(), 7, &Table::amendment(), &LADDER));
         assert_eq!(text.lines().collect::<Vec<_>>(), lines);
         assert_eq!(told(|_| ()), [""; 0]);
     }
@@ -206,8 +207,8 @@ mod tests {
             bond(700, 9, 0).with_group(8),
             bond(30, 9, 0),
         ];
-        let ladder = InterestLadder::default();
-        let text = show(&interest(&rows, 7, &ladder));
+        let (ladder, table) = (InterestLadder::default(), Table::amendment());
+        let text = show(&interest(&rows, 7, &table, &ladder));
         assert!(
             text.contains("= 12.5 weighted long + 70.0 weighted short\n"),
             "{text}"
@@ -218,7 +219,21 @@ mod tests {
         );
         assert!(text.contains(">= 57.5 residual\n"), "{text}");
         assert!(text.contains("<= 82.5 gross + 57.5 residual\n"), "{text}");
-        assert_eq!(broken(&interest(&rows, 9, &ladder)).count(), 0);
+        assert_eq!(broken(&interest(&rows, 9, &table, &ladder)).count(), 0);
+    }
+
+    /// Catches document 01's weights in the place of the table's: 60 days bear 3 basis points.
+    #[test]
+    fn rows_bear_the_weights_of_the_table() {
+        let mut bytes = [0; 36];
+        bytes[..30].copy_from_slice(&[3, 0].repeat(15));
+        let table = Table::new(&bytes).unwrap();
+        let rows = [bond(60, 40, 0), bond(30, 0, 10), bond(9_000, 0, 10)];
+        let text = show(&interest(&rows, 7, &table, &InterestLadder::default()));
+        assert!(
+            text.contains("= 12.0 weighted long + 6.0 weighted short\n"),
+            "{text}"
+        );
     }
 
     /// Catches sums that wrap: a residual with its sign may stand for a very large one.

@@ -1,8 +1,8 @@
--- `charges::charged_report` meets its contract: the total is the sum of the six.
+-- `charges::reports::charged_report` meets its contract: the total is the sum of the six.
 use borrow.Author.Needs.{needs}
 use Rattle.charges.specs.Report.{reportWith}
-use Rattle.charges.proofs.charged_report.Statement.{statement}
-use Rattle.charges.proofs.charged_report.Tie as tie
+use Rattle.charges.proofs.reports.charged_report.Statement.{statement}
+use Rattle.charges.proofs.reports.charged_report.Tie as tie
 
 returns : tie.Need-returns
 unfolding reportWith

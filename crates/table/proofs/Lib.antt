@@ -1,0 +1,2 @@
+-- Laws of ladder tables as bytes.
+pub mod Accepting

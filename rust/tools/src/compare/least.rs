@@ -1,0 +1,194 @@
+//! What a run must have seen at least.
+
+use super::floating::Floating;
+use super::premises::Premises;
+use super::tables::Tables;
+use super::tally::Tally;
+
+/// What 20,000 cases must show at least: about a third of what they do show.
+const LEAST: Tally = Tally {
+    accepted: 3_900,
+    with_rows: 3_900,
+    after_first: 960,
+    refused: [
+        0, 50, 120, 530, 255, 340, 140, 180, 235, 110, 0, 0, 0, 0, 0, 355,
+    ],
+    ladder_refused: 740,
+    three_zones: 280,
+    carried: 760,
+    joins: [
+        2_050, 80, 175, 790, 395, 520, 210, 275, 360, 165, 0, 20, 1_050, 0, 0, 555,
+    ],
+    of_second: 1_210,
+    premises: Premises {
+        joins: 1_020,
+        currencies: 1_230,
+        beside_three: 480,
+        dearer: 90,
+    },
+    floating: Floating {
+        accepted: 1_850,
+        joined: 650,
+        places: [170, 100, 85],
+        ways: [75, 80, 75],
+        elsewhere: 190,
+    },
+    tables: Tables {
+        amendment: 1_350,
+        others: 3_900,
+        charged: 1_800,
+        refused: [330, 840],
+        ways: [200, 75, 60, 65, 65, 65, 65, 65, 65, 65],
+        before_book: [115, 285],
+        after_group: 125,
+    },
+};
+
+/// The cases that `LEAST` is about.
+const CASES: u128 = 20_000;
+
+/// A minimum that comes to fewer is not asked for: chance alone could miss it.
+const FEWEST: u64 = 10;
+
+impl Tally {
+    /// What so many cases should have shown and have not, in words.
+    pub fn lacking(&self, cases: u64) -> Vec<String> {
+        let wanted = |least: u64| (u128::from(least) * u128::from(cases) / CASES) as u64;
+        let counts = self.named().into_iter().zip(LEAST.named());
+        let short = counts.filter_map(|((name, count), (_, least))| {
+            let wanted = wanted(least);
+            (wanted >= FEWEST && count < wanted)
+                .then(|| format!("{name}: {count} where at least {wanted} are wanted"))
+        });
+        short.collect()
+    }
+}
+
+#[cfg(test)]
+mod tests {
+    use super::*;
+
+    /// What a run must show, and one number of it that is one too low.
+    fn one_short(of: impl Fn(&mut Tally) -> &mut u64) -> Vec<String> {
+        let mut tally = LEAST;
+        *of(&mut tally) -= 1;
+        tally.lacking(20_000)
+    }
+
+    /// Catches a minimum that is left out or is nothing: each of these must be missed.
+    #[test]
+    fn every_count_has_a_minimum() {
+        assert!(LEAST.lacking(20_000).is_empty());
+        let alone = |of: fn(&mut Tally) -> &mut u64, name: &str| {
+            let lacking = one_short(of);
+            assert_eq!(lacking.len(), 1, "{name}");
+            assert!(lacking[0].starts_with(&format!("{name}: ")), "{lacking:?}");
+        };
+        alone(|tally| &mut tally.accepted, "books accepted");
+        alone(|tally| &mut tally.with_rows, "books accepted with rows");
+        alone(
+            |tally| &mut tally.after_first,
+            "books refused after their first row",
+        );
+        alone(|tally| &mut tally.ladder_refused, "ladders refused 10");
+        alone(
+            |tally| &mut tally.three_zones,
+            "interest ladders with three zones",
+        );
+        alone(
+            |tally| &mut tally.carried,
+            "commodity ladders with amounts carried",
+        );
+        alone(|tally| &mut tally.joins[0], "joins made");
+        alone(
+            |tally| &mut tally.of_second,
+            "joins refused for the second book",
+        );
+        alone(
+            |tally| &mut tally.premises.joins,
+            "joins under the zone premise",
+        );
+        alone(
+            |tally| &mut tally.premises.currencies,
+            "currencies joined under their zone premise",
+        );
+        alone(
+            |tally| &mut tally.premises.beside_three,
+            "currencies joined beside one with three zones",
+        );
+        alone(
+            |tally| &mut tally.premises.dearer,
+            "currencies dearer when joined",
+        );
+        alone(
+            |tally| &mut tally.floating.accepted,
+            "books accepted with floating rates",
+        );
+        alone(
+            |tally| &mut tally.floating.joined,
+            "joins of books with floating rates",
+        );
+        alone(
+            |tally| &mut tally.floating.elsewhere,
+            "books refused 5 for kind 4 of another class",
+        );
+        for at in 0..3 {
+            assert_eq!(one_short(|tally| &mut tally.floating.places[at]).len(), 1);
+            assert_eq!(one_short(|tally| &mut tally.floating.ways[at]).len(), 1);
+        }
+        every_table_has_a_minimum();
+        for number in (1..=9).chain([15]) {
+            let lacking = one_short(|tally| &mut tally.refused[number]);
+            assert!(lacking[0].starts_with(&format!("books refused {number}: ")));
+        }
+        for number in (1..=9).chain([11, 12, 15]) {
+            let lacking = one_short(|tally| &mut tally.joins[number]);
+            assert!(lacking[0].starts_with(&format!("joins refused {number}: ")));
+        }
+    }
+
+    /// The same of the tables.
+    fn every_table_has_a_minimum() {
+        let alone = |of: fn(&mut Tables) -> &mut u64, name: &str| {
+            let lacking = one_short(|tally| of(&mut tally.tables));
+            assert_eq!(lacking.len(), 1, "{name}");
+            assert!(lacking[0].starts_with(&format!("{name}: ")), "{lacking:?}");
+        };
+        alone(|tables| &mut tables.amendment, "document 01's table");
+        alone(|tables| &mut tables.others, "other tables accepted");
+        alone(
+            |tables| &mut tables.charged,
+            "interest rows under other tables",
+        );
+        alone(|tables| &mut tables.refused[0], "tables refused 18");
+        alone(|tables| &mut tables.refused[1], "tables refused 19");
+        alone(
+            |tables| &mut tables.before_book[0],
+            "tables refused 18 before a bad book",
+        );
+        alone(
+            |tables| &mut tables.before_book[1],
+            "tables refused 19 before a bad book",
+        );
+        alone(
+            |tables| &mut tables.after_group,
+            "bad tables after a ladder's group",
+        );
+        for way in 0..10 {
+            assert_eq!(one_short(|tally| &mut tally.tables.ways[way]).len(), 1);
+        }
+    }
+
+    /// Catches minimums that do not follow the count of the run.
+    #[test]
+    fn minimums_follow_the_count() {
+        let nothing = Tally::default();
+        assert_eq!(nothing.lacking(20_000).len(), 12 + 9 + 18 + 10 + 12);
+        assert!(LEAST.lacking(20_100).len() > 10);
+        let half = nothing.lacking(10_000);
+        assert!(half.contains(&"joins refused 11: 0 where at least 10 are wanted".to_string()));
+        // Few cases may miss the rarest, and very few may miss anything.
+        assert_eq!(nothing.lacking(9_999).len(), 12 + 9 + 18 + 10 + 11);
+        assert_eq!(nothing.lacking(51), [""; 0]);
+    }
+}

@@ -1,0 +1,76 @@
+//! A case as it is printed: its numbers, its table and its books.
+
+use super::case::Case;
+use books::tables::{text, Table};
+use books::{csv, Book};
+use std::fmt;
+
+/// A file in hex and, where it has rows, as CSV.
+fn show(name: &str, bytes: &[u8]) -> String {
+    let rows = Book::decode(bytes).map(|book| csv::write(&book));
+    let rows = rows.unwrap_or_else(|| "(the length does not agree with the counts)\n".into());
+    format!("book {name}, {} bytes: {}\n{rows}", bytes.len(), hex(bytes))
+}
+
+/// Some bytes in hex.
+fn hex(bytes: &[u8]) -> String {
+    bytes.iter().map(|byte| format!("{byte:02x}")).collect()
+}
+
+/// A table in hex and, where it has 36 bytes, as text; document 01's by its name.
+fn show_table(bytes: &[u8]) -> String {
+    if bytes == second::table() {
+        return "document 01's table\n".into();
+    }
+    let text = Table::decode(bytes).map(|table| text::write(&table));
+    let text = text.unwrap_or_default();
+    format!("table, {} bytes: {}\n{text}", bytes.len(), hex(bytes))
+}
+
+impl fmt::Display for Case {
+    fn fmt(&self, out: &mut fmt::Formatter) -> fmt::Result {
+        let Case { group, room, .. } = self;
+        let (a, b, table) = (
+            show("A", &self.a),
+            show("B", &self.b),
+            show_table(&self.table),
+        );
+        write!(out, "group {group}, output of {room} bytes\n{table}{a}{b}")
+    }
+}
+
+#[cfg(test)]
+mod tests {
+    use super::*;
+
+    #[test]
+    fn a_case_is_shown_in_hex_and_as_csv() {
+        let mut case = Case::new(1, 1);
+        case.a = vec![0; 8];
+        case.b = vec![1, 2];
+        let text = case.to_string();
+        assert!(text.contains("book A, 8 bytes: 0000000000000000\nclass,group,"));
+        assert!(text.contains("book B, 2 bytes: 0102\n(the length"));
+    }
+
+    /// Catches a table that is not printed, or printed with its fields exchanged.
+    #[test]
+    fn a_table_is_shown_by_name_or_in_hex_and_numbers() {
+        let mut case = Case::new(1, 1);
+        case.table = second::table().to_vec();
+        assert!(case.to_string().contains("\ndocument 01's table\nbook A, "));
+        case.table[32] = 31;
+        let shown = case.to_string();
+        assert!(shown.contains("\ntable, 36 bytes: 000014002800"), "{shown}");
+        assert!(shown.contains("\nweights 0 20 40 "), "{shown}");
+        let per_cents =
+            "\nvertical 10\nzone-1 40\nzone-2 31\nzone-3 30\nadjacent 40\nzones-1-3 100\n";
+        assert!(shown.contains(per_cents), "{shown}");
+        case.table = vec![1, 2];
+        let shown = case.to_string();
+        assert!(
+            shown.contains("\ntable, 2 bytes: 0102\nbook A, "),
+            "{shown}"
+        );
+    }
+}

@@ -1,0 +1,151 @@
+//! The texts in samples/expected: what each is printed of, and its lines calculated again.
+
+use crate::again;
+use crate::common::{packed, prints_in, sample};
+use books::{csv, tables, Book};
+use std::collections::BTreeSet;
+use std::fs;
+
+/// The folder of the samples.
+pub fn samples() -> String {
+    format!("{}/../../samples", env!("CARGO_MANIFEST_DIR"))
+}
+
+/// The names of the files of a folder that end so, without their end.
+pub fn names(folder: &str, end: &str) -> BTreeSet<String> {
+    let files = fs::read_dir(folder).unwrap();
+    let files = files.map(|file| file.unwrap().file_name().into_string().unwrap());
+    files
+        .filter_map(|name| Some(name.strip_suffix(end)?.to_string()))
+        .collect()
+}
+
+/// A sample as rows.
+fn rows(name: &str) -> Book {
+    let text = fs::read_to_string(sample(name)).unwrap();
+    csv::parse(&text).unwrap().book
+}
+
+/// What is printed of a sample: its report, this with the charges of the currencies, or the
+/// ladder of one group.
+#[derive(Clone, Copy)]
+pub enum Print {
+    Report,
+    Currencies,
+    Currency(usize),
+    Commodity(usize),
+}
+
+/// All prints of a sample: the report, the currencies where there are several, and the ladder
+/// of every group that it has, or of group 0 if it has no rows at all.
+fn prints_of(book: &Book) -> Vec<Print> {
+    let groups = |class: usize| {
+        let groups: BTreeSet<usize> = book.classes[class]
+            .iter()
+            .map(|row| usize::from(row.group))
+            .collect();
+        match book.rows() {
+            0 => BTreeSet::from([0]),
+            _ => groups,
+        }
+    };
+    let mut all = vec![Print::Report];
+    all.extend((groups(0).len() > 1).then_some(Print::Currencies));
+    all.extend(groups(0).into_iter().map(Print::Currency));
+    all.extend(groups(3).into_iter().map(Print::Commodity));
+    all
+}
+
+/// A stored text: of which sample, its rows, the bytes of the table that it is charged under,
+/// what is printed of it.
+pub struct Stored {
+    sample: String,
+    book: Book,
+    table: Option<Vec<u8>>,
+    pub print: Print,
+}
+
+impl Stored {
+    pub fn name(&self) -> String {
+        let table = if self.table.is_some() { ".table" } else { "" };
+        let print = match self.print {
+            Print::Report => "report".into(),
+            Print::Currencies => "currencies".into(),
+            Print::Currency(group) => format!("currency-{group}"),
+            Print::Commodity(group) => format!("commodity-{group}"),
+        };
+        format!("{}{table}.{print}", self.sample)
+    }
+
+    pub fn text(&self) -> String {
+        let path = format!("{}/expected/{}.txt", samples(), self.name());
+        fs::read_to_string(&path).unwrap_or_else(|_| panic!("{path} is missing"))
+    }
+
+    /// What the command prints now.
+    pub fn printed(&self) -> String {
+        let book = packed(&self.sample, &self.name());
+        let group = match self.print {
+            Print::Currency(group) | Print::Commodity(group) => group.to_string(),
+            Print::Report | Print::Currencies => String::new(),
+        };
+        let mut words = match self.print {
+            Print::Report => vec!["report", &book],
+            Print::Currencies => vec!["report", &book, "--currencies"],
+            Print::Currency(_) => vec!["ladder", &book, "--currency", &group],
+            Print::Commodity(_) => vec!["ladder", &book, "--commodity", &group],
+        };
+        let table = format!("{}.table", self.sample);
+        if self.table.is_some() {
+            words.extend(["--table", &table]);
+        }
+        prints_in(&samples(), &words)
+    }
+
+    /// The lines of it, calculated again.
+    pub fn again(&self) -> Vec<String> {
+        let amendment = second::table().to_vec();
+        let table = self.table.as_ref().unwrap_or(&amendment);
+        let name = format!("{}.table", self.sample);
+        let note = self.table.as_ref().map(|table| again::note(&name, table));
+        let figures = match self.print {
+            Print::Report => again::report(&self.book.encode().unwrap(), table),
+            Print::Currencies => again::currencies(&self.book, table),
+            Print::Currency(group) => again::interest(&self.book, table, group),
+            Print::Commodity(group) => again::commodity(&self.book, group),
+        };
+        [note.unwrap_or_default(), figures].concat()
+    }
+}
+
+/// The bytes of the table beside a sample, if there is one.
+fn table_of(sample: &str) -> Option<Vec<u8>> {
+    let text = fs::read_to_string(format!("{}/{sample}.table", samples())).ok()?;
+    Some(tables::text::parse(&text).unwrap().encode())
+}
+
+/// Every print of every sample, and once more under its own table, which no commodity has a
+/// part in.
+pub fn all() -> Vec<Stored> {
+    let mut all = Vec::new();
+    for sample in names(&samples(), ".csv") {
+        let book = rows(&sample);
+        let stored = |table: Option<Vec<u8>>, print| Stored {
+            sample: sample.clone(),
+            book: book.clone(),
+            table,
+            print,
+        };
+        all.extend(
+            prints_of(&book)
+                .into_iter()
+                .map(|print| stored(None, print)),
+        );
+        if let Some(table) = table_of(&sample) {
+            let prints = prints_of(&book).into_iter();
+            let prints = prints.filter(|print| !matches!(print, Print::Commodity(_)));
+            all.extend(prints.map(|print| stored(Some(table.clone()), print)));
+        }
+    }
+    all
+}
