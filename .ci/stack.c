@@ -3,6 +3,7 @@
 #include "market_risk.h"
 
 #include <stdio.h>
+#include <string.h>
 #include <ucontext.h>
 
 enum { ROOM = 64 * 1024, PAINT = 0xa5, ROWS = 1000 };
@@ -12,6 +13,10 @@ static _Alignas(16) volatile uint8_t room[ROOM];
 /* 1,000 rows of each class, group 1, days 270 or 0, long 5: with every class every part of a call runs. */
 static uint8_t book[8 + 4 * ROWS * 16];
 static uint8_t joined[sizeof book];
+
+/* A small bank's book: the last two classes of the one above. */
+static uint8_t small[8 + 2 * ROWS * 16];
+
 static uint64_t out[75];
 static uint8_t table[36];
 
@@ -26,6 +31,8 @@ static void fill(void)
         for (size_t i = 0; i < ROWS * 16; i++)
             book[8 + class * ROWS * 16 + i] = rows[class][i % 16];
     }
+    memcpy(small + 4, book + 4, 4);
+    memcpy(small + 8, book + 8 + 2 * ROWS * 16, 2 * ROWS * 16);
 }
 
 static void check(void) { market_risk_check(book, sizeof book, out); }
@@ -33,6 +40,7 @@ static void give_table(void) { market_risk_table(table); }
 static void charge(void) { market_risk_charge(book, sizeof book, table, sizeof table, out); }
 static void interest_ladder(void) { market_risk_interest_ladder(book, sizeof book, table, sizeof table, 1, out); }
 static void commodity_ladder(void) { market_risk_commodity_ladder(book, sizeof book, 1, out); }
+static void small_bank(void) { market_risk_small_bank(small, sizeof small, out); }
 static void join(void)
 {
     static const uint8_t empty[8];
@@ -71,5 +79,6 @@ int main(void)
     fill();
     refused = print_used("check", check) + print_used("table", give_table); /* the next two take this table */
     refused += print_used("charge", charge) + print_used("interest_ladder", interest_ladder);
-    return refused + print_used("commodity_ladder", commodity_ladder) + print_used("join", join);
+    refused += print_used("commodity_ladder", commodity_ladder) + print_used("small_bank", small_bank);
+    return refused + print_used("join", join);
 }

@@ -1,6 +1,7 @@
 /* Charges some small books through the C interface and prints their reports, with the
  * interest charges of each currency that has any: under document 01's table, and one of them
- * under a table of its own.
+ * under a table of its own. Then the charges of a bank with only foreign exchange and
+ * commodities.
  *
  *     cc -Wall -Wextra -Werror -Iinclude examples/charge.c target/staticlib/libmarket_risk.a -o charge
  */
@@ -50,6 +51,15 @@ static const uint8_t currencies[8 + 3 * 16] = {
 static const uint8_t floating[8 + 16] = {
     1, 0, 0, 0, 0, 0, 0, 0,
     7, 4, 90, 0, 0x40, 0x0b, 0, 0, 1, 0, 0, 0, 0, 0, 0, 0,
+};
+
+/* A small bank's book: gold, short 2; commodity 3, long 10 at 30 days (0x1e) and short 4 at 720 (0x02d0), which are net 6 and
+ * gross 14 whatever the days: 15% and 3% of these are 900,000 + 420,000 mils. */
+static const uint8_t small[8 + 3 * 16] = {
+    0, 0, 0, 0, 1, 0, 2, 0,
+    0, 0, 0,    0,    0, 0, 0, 0, 0,  0, 0, 0, 2, 0, 0, 0,
+    3, 0, 0x1e, 0,    0, 0, 0, 0, 10, 0, 0, 0, 0, 0, 0, 0,
+    3, 0, 0xd0, 0x02, 0, 0, 0, 0, 0,  0, 0, 0, 4, 0, 0, 0,
 };
 
 /* A supervisor's own table, made up: 100 basis points in each of the fifteen bands; per cents
@@ -124,6 +134,18 @@ static void print_loaded(void)
     print_report_under(falling, sizeof falling, "zones book under a table whose weights fall", zones, sizeof zones);
 }
 
+static void print_small_bank(const char *name, const uint8_t *book, size_t len)
+{
+    uint64_t out[6];
+
+    market_risk_small_bank(book, len, out);
+    printf("%s\n", name);
+    if (out[0] != 0)
+        printf("refused %" PRIu64 " row %" PRIu64 "\n", out[0], out[1]);
+    else
+        printf("fx %" PRIu64 "\ncommodity %" PRIu64 "\ntotal %" PRIu64 "\n", out[3], out[4], out[5]);
+}
+
 int main(void)
 {
     uint8_t spoiled[sizeof classes], ended[sizeof floating], table[36];
@@ -143,5 +165,7 @@ int main(void)
     print_report("book of four classes, its last row bad", spoiled, sizeof spoiled);
     print_report("book of a floating-rate note that ends before its fixing", ended, sizeof ended);
     print_loaded();
+    print_small_bank("book of a small bank", small, sizeof small);
+    print_small_bank("book of four classes, as a small bank's", classes, sizeof classes);
     return 0;
 }

@@ -7,7 +7,8 @@
  *
  *     number   0 when the call is accepted, else document 01's number, 1 to 12, or one of
  *              document 02: 15, a floating-rate note with fixing over 360 days, or final
- *              maturity over 36,000 or before fixing; 18 and 19, a refused table
+ *              maturity over 36,000 or before fixing; 18 and 19, a refused table; 20, interest
+ *              or equity rows in a small bank's book
  *     row      the refused row, counted from 0 through the whole file; 0 for all but 4 to 9
  *              and 15
  *     book     1 for a fault of the second book of a join, else 0
@@ -38,9 +39,10 @@
  *     market_risk_charge           16000
  *     market_risk_interest_ladder   1000
  *     market_risk_commodity_ladder   600
+ *     market_risk_small_bank       15000
  *     market_risk_join               500
  *
- * The charge calls memset. Where the loader binds it at its first call, that call takes
+ * The charge and the small bank call memset. Where the loader binds it at its first call, that takes
  * some 3000 bytes more, once.
  */
 #ifndef MARKET_RISK_H
@@ -82,6 +84,13 @@ void market_risk_interest_ladder(const uint8_t *book, size_t len, const uint8_t 
  * step), residual, all three in amounts; charge. */
 void market_risk_commodity_ladder(const uint8_t *book, size_t len, size_t group,
                                   uint64_t out[7]);
+
+/* The charges of a bank with only foreign exchange and commodities. The commodity charge is
+ * that of the simplified method: 15% of each commodity's absolute net plus 3% of its gross,
+ * longs plus shorts, whatever the days of its rows; no table enters it. A book whose count of
+ * interest or of equity rows is above zero is refused with 20, after 3 and before the rows.
+ * out: number, row, book; foreign exchange as in market_risk_charge; commodity; total. */
+void market_risk_small_bank(const uint8_t *book, size_t len, uint64_t out[6]);
 
 /* Writes the join of two books to the front of out, which has out_len bytes. Bytes past
  * the joined book keep their values, and a refused join writes none. Two books of a_len

@@ -54,7 +54,7 @@ contents-sized s e =
       sized = eqb-true _ _ (not-false _ (past3 .0));
     }
 
-sized-contents : (s : List ℕ) → Sized s → contentsRefusal s ≡ 0
+pub sized-contents : (s : List ℕ) → Sized s → contentsRefusal s ≡ 0
 unfolding contentsRefusal
 sized-contents s a = simp (le-ltb _ _ (a .contents), le-ltb _ _ (a .few), eq-eqb _ _ (a .sized))
 

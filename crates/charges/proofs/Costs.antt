@@ -7,7 +7,7 @@ use native.Mathlib.Omega.{arith}
 use lib.ListN.{length, getD, replicate, length-map, length-replicate}
 use Rattle.sums.specs.Sums.{sumOf, sumAt, span}
 use Rattle.sums.specs.Every.{Every}
-use Rattle.sums.proofs.Every.{every-implied, mapped-every}
+use Rattle.sums.proofs.Every.{every-implied, every-all, mapped-every}
 use Rattle.sums.proofs.Sums.{sumOf-map}
 use Rattle.sums.proofs.Spans.{sum-same, slots-all}
 use Rattle.sums.proofs.Tables.{length-tally}
@@ -25,22 +25,23 @@ use Rattle.ladder.specs.Position.{Bands, gross, total}
 use Rattle.ladder.specs.declared.Table.{Table}
 use Rattle.ladder.specs.Interest.{interestFigures}
 use Rattle.ladder.specs.Commodity.{commodityBandCount, commodityFigures}
-use Rattle.ladder.specs.Nets.{absoluteNets, shorthand}
+use Rattle.ladder.specs.Nets.{absoluteNets, shorthand, simplified}
 use Rattle.ladder.specs.Rows.{inGroup, ladderOf, groupsOf}
 use Rattle.ladder.specs.Inner.Steps.{bandCount}
 use Rattle.ladder.proofs.Matching.{same-position}
-use Rattle.ladder.proofs.Agreeing.{Agree, gross-agree, absolutes-agree, shorthand-agree}
-use Rattle.ladder.proofs.Bounds.{positionsBy-within, ladders-within}
+use Rattle.ladder.proofs.Totals.{total-sides}
+use Rattle.ladder.proofs.Agreeing.{Agree, total-agree, gross-agree, absolutes-agree, shorthand-agree, simplified-agree}
+use Rattle.ladder.proofs.Bounds.{positionsBy-within, positionsBy-all, ladders-within}
 use Rattle.charges.specs.Bands.{bandIn}
 use Rattle.charges.specs.Charges.{eightPerCent, groups, currencies, reading, specificOf, specificCharge}
-use Rattle.charges.specs.Charges.{interestGeneral, equityGeneral, exchangeGeneral, commodityGeneral, byCurrency}
+use Rattle.charges.specs.Charges.{interestGeneral, equityGeneral, exchangeGeneral, commodityGeneral, simplifiedCommodity, byCurrency}
 use Rattle.charges.specs.Report.{classRows}
 use Rattle.charges.specs.Inner.Slots.{groupCount, equityFirst, exchangeFirst, slotCount, slotAt, legSlot, legLong, legShort, legCounted, LegSums}
-use Rattle.charges.specs.Inner.Tables.{mostGross, bandsFrom, grossFrom, weightedFrom, currencyAt, commodityAt}
+use Rattle.charges.specs.Inner.Tables.{mostGross, bandsFrom, grossFrom, weightedFrom, currencyAt, commodityAt, commodityGroups}
 use Rattle.charges.proofs.Legs.{amounts, amounts-within}
 use Rattle.charges.proofs.Rates.{groups-rate}
 use Rattle.charges.proofs.Currencies.{alone-specific, alone-general}
-use Rattle.charges.proofs.Places.{bandsIn, Placed}
+use Rattle.charges.proofs.Places.{bandsIn, Placed, commodity-below}
 use Rattle.charges.proofs.Figures.{interest-from, commodity-from}
 use Rattle.charges.proofs.Sorting.{Holds, holds, none-counted}
 
@@ -56,7 +57,7 @@ module _ (s : List ℕ) (ok : Accepted s) where
     pub rows-many : length (classRows s class) ≡ countIn (countsOf s) class
     rows-many = rw (class-rows s class low high) (length-map (rowsOf s class) decode ∙ class-count s (ok .sized) class)
 
-    amounts-most : amounts (classRows s class) ≤ mostGross
+    pub amounts-most : amounts (classRows s class) ≤ mostGross
     amounts-most = omega (arith, amounts-within class rows-clean, rows-many, before-within (countsOf s) class, ok .few)
 
     -- each row is of one of the 32 groups
@@ -86,7 +87,7 @@ flat-sum : (class : ℕ) → ((row : Row) → bandIn class row ≡ 0) → (amoun
     → sumAt (bandIn class) (inGroup (reading class) g amount) 0 rows ≡ sumAt (λ row. row .group) amount g rows
 flat-sum class flat amount g rows = ap (λ (f : Row → ℕ). sumOf f rows) (fun-ext (λ row. simp (flat row)))
 
-pub record Costs (table : Table) (s longs shorts specifics rows : List ℕ) : Type 0 where
+pub record Costs (s longs shorts specifics rows : List ℕ) : Type 0 where
   pub longs-sized : length longs ≡ slotCount
   pub shorts-sized : length shorts ≡ slotCount
   pub interest-fits : sumOf (λ g. grossFrom bandCount longs shorts (currencyAt g)) groups ≤ mostGross
@@ -96,13 +97,14 @@ pub record Costs (table : Table) (s longs shorts specifics rows : List ℕ) : Ty
   pub equity-fits : grossFrom groupCount longs shorts equityFirst ≤ mostGross
   pub exchange-fits : grossFrom groupCount longs shorts exchangeFirst ≤ mostGross
   pub specifics-are : map (λ g. getD specifics (0 + g) 0) groups ≡ byCurrency (specificCharge 1) (classRows s 1)
-  pub generals-are : map (λ g. interestFigures (table .percents) (weightedFrom table longs shorts (currencyAt g)) .charge) groups ≡ byCurrency (interestGeneral table) (classRows s 1)
   pub commodity-is : sumOf (λ g. commodityFigures (bandsFrom longs shorts (commodityAt g)) .charge) groups ≡ commodityGeneral (classRows s 4)
   pub equity-is : eightPerCent * absoluteNets groups (bandsFrom longs shorts equityFirst) ≡ equityGeneral (classRows s 2)
   pub exchange-is : eightPerCent * shorthand currencies (bandsFrom longs shorts exchangeFirst) ≡ exchangeGeneral (classRows s 3)
+  pub groups-fit : gross (total (commodityGroups longs shorts) groups) ≤ mostGross
+  pub simplified-is : simplified groups (commodityGroups longs shorts) ≡ simplifiedCommodity (classRows s 4)
   pub equity-specific-is : sumOf (λ entry. entry) (map (λ g. getD specifics (32 + g) 0) groups) ≡ specificCharge 2 (classRows s 2)
 
-module _ (table : Table) (s longs shorts specifics rows : List ℕ) (ok : Accepted s) (sums : LegSums (legsOf s) longs shorts specifics rows) where
+module _ (s longs shorts specifics rows : List ℕ) (ok : Accepted s) (sums : LegSums (legsOf s) longs shorts specifics rows) where
   at : (class g : ℕ) → 1 ≤ class → class ≤ 4 → g < groupCount → Holds (legsOf s) class g longs shorts specifics rows
   at class g low high h = holds (legsOf s) (legs-placed s ok) class g low high (omega arith) longs shorts specifics rows sums
 
@@ -113,6 +115,17 @@ module _ (table : Table) (s longs shorts specifics rows : List ℕ) (ok : Accept
   commodity-agrees : (g : ℕ) → g < groupCount → Agree commodityBandCount (bandsFrom longs shorts (commodityAt g)) (ladderOf (reading 4) g (classRows s 4))
   unfolding slotAt bandsIn
   commodity-agrees g h = let held = at 4 g (omega arith) (omega arith) h in record { below = λ k h′. same-position (held .long k h′) (held .short k h′) }
+
+  -- a commodity's bands together are its position
+  simplified-agrees : Agree groupCount (commodityGroups longs shorts) (groupsOf (reading 4) (classRows s 4))
+  unfolding bandIn
+  simplified-agrees =
+      record {
+        below = λ g h.
+            sym (total-sides (bandsFrom longs shorts (commodityAt g)) (span 0 commodityBandCount))
+            ∙ total-agree (commodity-agrees g h) (λ a. a) 0 commodityBandCount (omega arith)
+            ∙ positionsBy-all (bandIn 4) _ _ commodityBandCount (every-all commodity-below (classRows s 4));
+      }
 
   equity-agree : Agree groupCount (bandsFrom longs shorts equityFirst) (groupsOf (reading 2) (classRows s 2))
   unfolding slotAt bandsIn bandIn
@@ -132,8 +145,18 @@ module _ (table : Table) (s longs shorts specifics rows : List ℕ) (ok : Accept
             same-position (held .long 0 (omega arith) ∙ flat-sum 3 (λ row. refl) (λ row. row .long) g _) (held .short 0 (omega arith) ∙ flat-sum 3 (λ row. refl) (λ row. row .short) g _);
       }
 
-  pub costs : Costs table s longs shorts specifics rows
-  unfolding specificCharge commodityGeneral equityGeneral exchangeGeneral legCounted byCurrency
+  -- the charge of each currency's ladder, by a table
+  pub generals-are : (table : Table)
+      → map (λ g. interestFigures (table .percents) (weightedFrom table longs shorts (currencyAt g)) .charge) groups ≡ byCurrency (interestGeneral table) (classRows s 1)
+  unfolding byCurrency
+  generals-are table =
+      listed-same _ _ groupCount
+      (λ g h.
+      ap (λ figures. figures .charge) (interest-from longs shorts (currencyAt g) g (classRows s 1) table (currency-agree g h))
+      ∙ sym (alone-general table g (classRows s 1) h))
+
+  pub costs : Costs s longs shorts specifics rows
+  unfolding specificCharge commodityGeneral simplifiedCommodity equityGeneral exchangeGeneral legCounted byCurrency
   costs =
       record {
         longs-sized = rw (sums .is-longs) (length-tally legSlot legLong (replicate slotCount 0) (legsOf s) ∙ length-replicate {A = ℕ} slotCount 0);
@@ -147,12 +170,10 @@ module _ (table : Table) (s longs shorts specifics rows : List ℕ) (ok : Accept
         equity-fits = omega (arith, gross-agree equity-agree, groups-rate 2 (classRows s 2), amounts-most s ok 2 (omega arith) (omega arith));
         exchange-fits = omega (arith, gross-agree exchange-agree, groups-rate 3 (classRows s 3), amounts-most s ok 3 (omega arith) (omega arith));
         specifics-are = listed-same _ _ groupCount (λ g h. at 1 g (omega arith) (omega arith) h .specific ∙ sym (alone-specific g (classRows s 1)));
-        generals-are = listed-same _ _ groupCount
-            (λ g h.
-            ap (λ figures. figures .charge) (interest-from longs shorts (currencyAt g) g (classRows s 1) table (currency-agree g h))
-            ∙ sym (alone-general table g (classRows s 1) h));
         commodity-is = sum-same _ _ groupCount (λ g h. ap (λ figures. figures .charge) (commodity-from longs shorts (commodityAt g) g (classRows s 4) (commodity-agrees g h)));
         equity-is = ap (λ (n : ℕ). eightPerCent * n) (absolutes-agree equity-agree);
+        groups-fit = omega (arith, gross-agree simplified-agrees, groups-rate 4 (classRows s 4), amounts-most s ok 4 (omega arith) (omega arith));
+        simplified-is = simplified-agree simplified-agrees;
         exchange-is = ap (λ (n : ℕ). eightPerCent * n) (shorthand-agree exchange-agree);
         equity-specific-is = sumOf-map (λ entry. entry) _ groups
             ∙ sum-same _ _ groupCount (λ g h. at 2 g (omega arith) (omega arith) h .specific)

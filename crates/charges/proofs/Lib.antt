@@ -12,5 +12,7 @@ pub mod Rates
 pub mod Currencies
 pub mod Figures
 pub mod Costs
+pub mod Taking
+pub mod Small
 pub mod Reporting
 pub mod Reading

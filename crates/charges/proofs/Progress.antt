@@ -16,14 +16,14 @@ use Rattle.sums.specs.Inner.Tables.{tally, placed}
 use Rattle.sums.proofs.Sums.{sumOf-append, sumAt≤}
 use Rattle.sums.proofs.Cases.{either}
 use Rattle.sums.proofs.Tables.{length-tally, tally-last, tallied}
-use Rattle.book.specs.Refusals.{mostRows, mostAmount, rowRefusal, refused, contentsRefusal, firstRefusal, refusalOf}
+use Rattle.book.specs.Refusals.{mostRows, mostAmount, rowRefusal, refused, firstRefusal}
 use Rattle.book.specs.Accepted.{Clean}
-use Rattle.book.specs.Legs.{Leg, legsOf}
+use Rattle.book.specs.Legs.{Leg}
 use Rattle.book.proofs.Passing.{passes-clean}
 use Rattle.book.proofs.Searching.{Passed, none-passed, passes, leaves, all-passed}
 use Rattle.charges.specs.Charges.{eightPerCent, specificOf}
 use Rattle.charges.specs.Inner.Slots.{slotCount, legSlot, groupSlots, groupSlot, legLong, legShort, legSpecific, legCounted, LegSums, Clear, Roomy, Room, Added}
-use Rattle.charges.specs.Inner.Pass.{refusedAt, takenOf, passed, PassOf}
+use Rattle.charges.specs.Inner.Pass.{refusalAfter, refusedAt, takenOf, passed, PassOf}
 use Rattle.charges.proofs.Legs.{amount-within, weight-within}
 
 -- ---- one table
@@ -137,17 +137,18 @@ module _ (legs : List Leg) (longs shorts specifics rows : List ℕ) where
         let found = all-passed legs n (omega arith) (so-far .went-on) in
         record { is-taken = rw (found, all); sums = rw (found, ← all) sums-so-far }
 
--- ---- the contents before the rows
-pub contents-refused : (s : List ℕ) (longs shorts specifics rows : List ℕ) → Clear longs shorts specifics rows → (contentsRefusal s ≡ 0 → ⊥)
-    → PassOf (refusalOf s) (legsOf s) (refusedAt (contentsRefusal s) 0) longs shorts specifics rows
-unfolding refusedAt takenOf passed refused refusalOf
-contents-refused s longs shorts specifics rows clear bad =
-    let number = ne-eqb (contentsRefusal s) 0 bad in
-    record {
-      is-taken = simp number;
-      sums = simp number (sums-so-far (legsOf s) longs shorts specifics rows 0 (none-taken (legsOf s) longs shorts specifics rows clear));
-    }
+-- ---- what comes before the rows
+module _ (number : ℕ) (legs : List Leg) where
+  pub refused-before : (longs shorts specifics rows : List ℕ) → Clear longs shorts specifics rows → (number ≡ 0 → ⊥)
+      → PassOf (refusalAfter number legs) legs (refusedAt number 0) longs shorts specifics rows
+  unfolding refusedAt takenOf passed refused refusalAfter
+  refused-before longs shorts specifics rows clear bad =
+      let some = ne-eqb number 0 bad in
+      record {
+        is-taken = simp some;
+        sums = simp some (sums-so-far legs longs shorts specifics rows 0 (none-taken legs longs shorts specifics rows clear));
+      }
 
-pub contents-passed : (s : List ℕ) → contentsRefusal s ≡ 0 → refusalOf s ≡ firstRefusal 0 (legsOf s)
-unfolding refusalOf
-contents-passed s e = rw (eq-eqb _ _ e)
+  pub none-before : number ≡ 0 → refusalAfter number legs ≡ firstRefusal 0 legs
+  unfolding refusalAfter
+  none-before e = rw (eq-eqb _ _ e)

@@ -8,10 +8,10 @@ use Rattle.book.specs.declared.Row.{Row}
 use Rattle.ladder.specs.Position.{gross, total}
 use Rattle.ladder.specs.declared.Table.{Table}
 use Rattle.ladder.specs.Rows.{groupsOf}
-use Rattle.ladder.proofs.Netting.{absolutes-within, shorthand-within}
+use Rattle.ladder.proofs.Netting.{absolutes-within, shorthand-within, simplified-within}
 use Rattle.ladder.proofs.Bounds.{groups-within, general-within, commodities-within}
 use Rattle.ladder.specs.Inner.Steps.{TableBounds}
-use Rattle.charges.specs.Charges.{eightPerCent, groups, currencies, reading, interestFiguresOf, commodityFiguresOf, interestGeneral, equityGeneral, exchangeGeneral, commodityGeneral}
+use Rattle.charges.specs.Charges.{eightPerCent, groups, currencies, reading, interestFiguresOf, commodityFiguresOf, interestGeneral, equityGeneral, exchangeGeneral, commodityGeneral, simplifiedCommodity}
 use Rattle.charges.specs.Inner.Slots.{groupCount}
 use Rattle.charges.proofs.Legs.{amounts}
 
@@ -34,3 +34,7 @@ exchange-rate rows = omega (arith, shorthand-within currencies (groupsOf (readin
 pub commodity-rate : (rows : List Row) → commodityGeneral rows ≤ 186000 * amounts rows
 unfolding commodityGeneral commodityFiguresOf amounts
 commodity-rate rows = commodities-within (reading 4) groupCount rows
+
+pub simplified-rate : (rows : List Row) → simplifiedCommodity rows ≤ 180000 * amounts rows
+unfolding simplifiedCommodity
+simplified-rate rows = omega (arith, simplified-within groups (groupsOf (reading 4) rows), groups-rate 4 rows)

@@ -1,18 +1,16 @@
 -- From what a pass took to the report.
 -- Assumes nothing.
-use mathlib.Core.Path.{_≡_, sym, ap, subst, _∙_}
+use mathlib.Core.Path.{_≡_, ap, _∙_}
 use mathlib.Core.Bool.{Bool, true, false, cond}
 use mathlib.Core.List.{List}
 use Prim.Native.Nat.{ℕ, _+_, _≤_}
 use native.Mathlib.Omega.{arith}
 use lib.Dec.{eqb}
 use lib.ListN.{length, length-replicate}
-use lib.Seq.{take-all}
 use borrow.Author.Tests.{eq-eqb, ne-eqb}
 use Rattle.sums.specs.Sums.{sumOf}
-use Rattle.book.specs.declared.Refusal.{Refusal}
 use Rattle.book.specs.Counts.{countIn, rowCount}
-use Rattle.book.specs.Legs.{Leg, legsOf}
+use Rattle.book.specs.Legs.{legsOf}
 use Rattle.book.specs.Refusals.{refused, refusalOf}
 use Rattle.book.specs.Accepted.{Accepted}
 use Rattle.book.specs.Parts.{accepts}
@@ -21,9 +19,10 @@ use Rattle.ladder.specs.Inner.Steps.{TableBounds}
 use Rattle.table.specs.Loaded.{tableRefusal, tableOf}
 use Rattle.charges.specs.Charges.{specificCharge, interestGeneral, equityGeneral, exchangeGeneral, commodityGeneral, interestRisk, equityRisk, byCurrency}
 use Rattle.charges.specs.Report.{Report, classRows, reportWith, refusedReport, chargedReport, before, reportOf}
-use Rattle.charges.specs.Inner.Slots.{groupCount, LegSums}
-use Rattle.charges.specs.Inner.Pass.{Taken, takenOf, passed}
+use Rattle.charges.specs.Inner.Slots.{groupCount}
+use Rattle.charges.specs.Inner.Pass.{Taken, takenOf}
 use Rattle.charges.specs.Inner.Answers.{mostTotal, reportBy}
+use Rattle.charges.proofs.Taking.{taken-refusal, taken-number, none-refused, taken-all}
 use Rattle.charges.proofs.Legs.{amounts-within, specific-within}
 use Rattle.charges.proofs.Rates.{interest-rate, equity-rate, exchange-rate, commodity-rate}
 use Rattle.charges.proofs.Currencies.{specifics-sum, generals-sum, currencies-many, currency-sum}
@@ -102,31 +101,11 @@ pub record Six (table : Table) (s : List ℕ) (p g q h x y : ℕ) : Type 0 where
   pub commodity : y ≡ commodityGeneral (classRows s 4)
 
 module _ (table : Table) (s : List ℕ) (taken : Taken) (is : taken ≡ takenOf (refusalOf s) (legsOf s)) where
-  taken-refusal : taken .refusal ≡ refusalOf s
-  unfolding takenOf
-  taken-refusal = ap (λ (t : Taken). t .refusal) is
-
-  pub taken-number : taken .refusal .number ≡ refusalOf s .number
-  taken-number = ap (λ (r : Refusal). r .number) taken-refusal
-
   pub report-refused : (report : Report) → report ≡ refusedReport (taken .refusal) → (taken .refusal .number ≡ 0 → ⊥) → report ≡ reportBy table s
   unfolding reportBy accepts
-  report-refused report r bad = r ∙ simp (ne-eqb _ _ (λ e. bad (taken-number ∙ e))) (ap refusedReport taken-refusal)
+  report-refused report r bad = r ∙ simp (ne-eqb _ _ (λ e. bad (taken-number _ _ _ is ∙ e))) (ap refusedReport (taken-refusal _ _ _ is))
 
   module _ (good : taken .refusal .number ≡ 0) where
-    none-refused : refusalOf s .number ≡ 0
-    none-refused = sym taken-number ∙ good
-
-    -- each row was taken, and is in the sums
-    taken-all : taken .rows ≡ length (legsOf s)
-    unfolding takenOf
-    taken-all = ap (λ (t : Taken). t .rows) is ∙ simp (eq-eqb _ _ none-refused)
-
-    pub sums-all : {longs shorts specifics rows : List ℕ} → LegSums (passed (refusalOf s) (legsOf s)) longs shorts specifics rows → LegSums (legsOf s) longs shorts specifics rows
-    unfolding passed
-    sums-all {longs} {shorts} {specifics} {rows} sums =
-        subst (λ (legs : List Leg). LegSums legs longs shorts specifics rows) (take-all (length (legsOf s)) (legsOf s) (omega arith)) (simp (eq-eqb _ _ none-refused) at sums)
-
     module _ (p g q h x y : ℕ) (six : Six table s p g q h x y) where
       pub six-fit : TableBounds table → Accepted s → p + g + q + h + x + y ≤ mostTotal
       six-fit ok of = omega (arith, total-fits table ok s of, six .interest-specific, six .interest-general, six .equity-specific, six .equity-general, six .exchange, six .commodity)
@@ -136,7 +115,7 @@ module _ (table : Table) (s : List ℕ) (taken : Taken) (is : taken ≡ takenOf 
       unfolding reportBy chargedReport accepts interestRisk equityRisk
       report-charged specifics generals lists report r =
           r
-          ∙ simp (eq-eqb _ _ none-refused)
+          ∙ simp (eq-eqb _ _ (none-refused _ _ _ is good))
           (rw (
             six .interest-specific,
             six .interest-general,
@@ -144,7 +123,7 @@ module _ (table : Table) (s : List ℕ) (taken : Taken) (is : taken ≡ takenOf 
             six .equity-general,
             six .exchange,
             six .commodity,
-            taken-all,
+            taken-all _ _ _ is good,
             lists .specifics-are,
             lists .generals-are,
           ))

@@ -10,7 +10,7 @@ use Rattle.ladder.specs.declared.CommodityFigures.{CommodityFigures}
 use Rattle.ladder.specs.declared.Table.{Table}
 use Rattle.ladder.specs.Interest.{interestFigures}
 use Rattle.ladder.specs.Commodity.{commodityFigures}
-use Rattle.ladder.specs.Nets.{absoluteNets, shorthand}
+use Rattle.ladder.specs.Nets.{absoluteNets, shorthand, simplified}
 use Rattle.ladder.specs.Rows.{Reading, weighing, ladderOf, groupsOf}
 use Rattle.charges.specs.Bands.{bandIn}
 use Rattle.charges.specs.Weights.{specificWeight}
@@ -65,6 +65,10 @@ exchangeGeneral rows = eightPerCent * shorthand currencies (groupsOf (reading 3)
 -- the ladders of all commodities, summed (document 01, The commodities ladder)
 unfoldable pub commodityGeneral : List Row → ℕ
 commodityGeneral rows = sumOf (λ group. commodityFiguresOf group rows .charge) groups
+
+-- 15% of each commodity's absolute net and 3% of its gross, whatever the days (document 01, The simplified approach; P11)
+unfoldable pub simplifiedCommodity : List Row → ℕ
+simplifiedCommodity rows = simplified groups (groupsOf (reading 4) rows)
 
 -- the two parts of the interest charge, and of the equity charge
 unfoldable pub interestRisk : Table → List Row → Risk

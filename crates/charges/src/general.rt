@@ -16,13 +16,14 @@ ghost use mathlib.Core.List.{map};
 ghost use Prim.Native.Nat.{ℕ, _+_, _*_, _<_, _≤_};
 ghost use lib.ListN.{length, getD};
 ghost use Rattle.sums.specs.Sums.{sumOf};
+ghost use Rattle.ladder.specs.Position.{gross, total};
 ghost use Rattle.ladder.specs.Interest.{interestFigures};
 ghost use Rattle.ladder.specs.Commodity.{commodityBandCount, commodityFigures};
-ghost use Rattle.ladder.specs.Nets.{absoluteNets, shorthand};
+ghost use Rattle.ladder.specs.Nets.{absoluteNets, shorthand, simplified};
 ghost use Rattle.ladder.specs.Inner.Steps.{bandCount, TableBounds};
 ghost use Rattle.charges.specs.Charges.{eightPerCent, groups, currencies};
 ghost use Rattle.charges.specs.Inner.Slots.{groupCount, equityFirst, exchangeFirst, slotCount};
-ghost use Rattle.charges.specs.Inner.Tables.{mostGross, tableWith, bandsFrom, grossFrom, weightedFrom, currencyAt, commodityAt};
+ghost use Rattle.charges.specs.Inner.Tables.{mostGross, tableWith, bandsFrom, grossFrom, weightedFrom, currencyAt, commodityAt, commodityGroups};
 
 // 8% of an amount unit, in mils.
 const EIGHT_PER_CENT: u64 = 80000;
@@ -126,4 +127,15 @@ pub fn exchange_general(longs: &[u64; SLOTS], shorts: &[u64; SLOTS]) -> u64
     let currency_longs = &all_longs[EXCHANGE..SLOTS];
     let currency_shorts = &all_shorts[EXCHANGE..SLOTS];
     EIGHT_PER_CENT * ladder::shorthand(currency_longs, currency_shorts, GROUPS - 1)
+}
+
+// The simplified charge of all commodities.
+pub fn commodity_simplified(longs: &[u64; SLOTS], shorts: &[u64; SLOTS]) -> u64
+    requires { ⌜ (length (now longs) ≡ slotCount) × (length (now shorts) ≡ slotCount) ⌝ }
+    requires { ⌜ gross (total (commodityGroups (now longs) (now shorts)) groups) ≤ mostGross ⌝ }
+    ensures { λ r. ⌜ r ≡ simplified groups (commodityGroups (now (longs .entry)) (now (shorts .entry))) ⌝ }
+{
+    let commodity_longs = tables::commodity_sums(longs);
+    let commodity_shorts = tables::commodity_sums(shorts);
+    ladder::simplified(&commodity_longs, &commodity_shorts, GROUPS)
 }

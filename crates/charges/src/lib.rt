@@ -9,7 +9,9 @@ mod slots;
 mod tables;
 mod weights;
 
+use crate::slots::GROUP_SLOTS;
 use crate::slots::GROUPS;
+use crate::slots::SLOTS;
 use book::Checked;
 use book::LAST_GROUP;
 use book::Refusal;
@@ -17,8 +19,10 @@ use ladder::BANDS;
 use ladder::CommodityFigures;
 use ladder::InterestFigures;
 ghost use mathlib.Core.Path.{_≡_};
+ghost use Prim.Native.Nat.{_+_, _≤_};
 ghost use Rattle.charges.specs.Report.{reportOf, interestLadderOf, commodityLadderOf};
-ghost use Rattle.charges.specs.Inner.Answers.{LadderRead};
+ghost use Rattle.charges.specs.SmallBank.{smallWith, smallBankOf};
+ghost use Rattle.charges.specs.Inner.Answers.{mostTotal, LadderRead};
 
 // The two parts of a class's charge.
 pub struct Risk {
@@ -50,6 +54,14 @@ pub struct InterestLadder {
 pub struct CommodityLadder {
     pub refusal: Refusal,
     pub figures: CommodityFigures,
+}
+
+// The figures of a bank with foreign exchange and commodities alone, in mils; all zero but the refusal where it is refused.
+pub struct SmallBank {
+    pub refusal: Refusal,
+    pub exchange: u64,
+    pub commodity: u64,
+    pub total: u64,
 }
 
 // The report of a book, in one pass over its rows: its six charges and their total, or why it is refused.
@@ -121,6 +133,37 @@ pub fn commodity_ladder(book: &[u8], group: usize) -> CommodityLadder
     CommodityLadder {
         refusal,
         figures: general::commodity_figures(&longs, &shorts, 0),
+    }
+}
+
+// The figures of a bank with foreign exchange and commodities alone, in one pass over its rows, or why its book is refused.
+pub fn small_bank(book: &[u8]) -> SmallBank
+    ensures { λ r. ⌜ r ≡ smallBankOf (now (book .entry)) ⌝ }
+{
+    let mut longs = [0u64; SLOTS];
+    let mut shorts = [0u64; SLOTS];
+    let mut specifics = [0u64; GROUP_SLOTS];
+    let mut rows = [0u16; GROUP_SLOTS];
+    let taken = pass::take_small_book(book, &mut longs, &mut shorts, &mut specifics, &mut rows);
+    let refusal = taken.refusal;
+    if refusal.number != 0 {
+        return small_with(refusal, 0, 0);
+    }
+    let exchange = general::exchange_general(&longs, &shorts);
+    let commodity = general::commodity_simplified(&longs, &shorts);
+    small_with(refusal, exchange, commodity)
+}
+
+// Two charges and their total.
+fn small_with(refusal: Refusal, exchange: u64, commodity: u64) -> SmallBank
+    requires { ⌜ exchange + commodity ≤ mostTotal ⌝ }
+    ensures { λ r. ⌜ r ≡ smallWith refusal exchange commodity ⌝ }
+{
+    SmallBank {
+        refusal,
+        exchange,
+        commodity,
+        total: exchange + commodity,
     }
 }
 

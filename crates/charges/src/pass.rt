@@ -12,11 +12,12 @@ ghost use mathlib.Core.Path.{_≡_};
 ghost use Prim.Native.Nat.{_≤_};
 ghost use Rattle.book.specs.Counts.{countsOf};
 ghost use Rattle.book.specs.Legs.{legsOf};
-ghost use Rattle.book.specs.Refusals.{firstRefusal, refusalOf};
+ghost use Rattle.book.specs.Refusals.{contentsRefusal, firstRefusal, refusalOf};
 ghost use Rattle.book.specs.Inner.Reading.{Sized};
+ghost use Rattle.charges.specs.SmallBank.{smallNumber, smallRefusal};
 ghost use Rattle.charges.specs.Inner.Columns.{columns as allColumns};
 ghost use Rattle.charges.specs.Inner.Slots.{legWith, Clear, Room};
-ghost use Rattle.charges.specs.Inner.Pass.{refusedAt, Took, PassOf};
+ghost use Rattle.charges.specs.Inner.Pass.{refusedAt, refusalAfter, Took, PassOf};
 
 // What a pass found: the first refusal, and the rows taken, none where there is one.
 pub struct Taken {
@@ -36,6 +37,53 @@ pub fn take_book(
     ensures { λ r. ⌜ PassOf (refusalOf (now (book .entry))) (legsOf (now (book .entry))) r (now (longs .exit)) (now (shorts .exit)) (now (specifics .exit)) (now (rows .exit)) ⌝ }
 {
     let wrong = book::contents::contents_refusal(book);
+    take_after(book, wrong, longs, shorts, specifics, rows)
+}
+
+// Takes the rows of a book of foreign exchange and commodities alone, or gives why it is refused: 1, 2, 3, 20, then the first bad row.
+pub fn take_small_book(
+    book: &[u8],
+    longs: &mut [u64; SLOTS],
+    shorts: &mut [u64; SLOTS],
+    specifics: &mut [u64; GROUP_SLOTS],
+    rows: &mut [u16; GROUP_SLOTS],
+) -> Taken
+    requires { ⌜ Clear (now longs) (now shorts) (now specifics) (now rows) ⌝ }
+    ensures { λ r. ⌜ PassOf (smallRefusal (now (book .entry))) (legsOf (now (book .entry))) r (now (longs .exit)) (now (shorts .exit)) (now (specifics .exit)) (now (rows .exit)) ⌝ }
+{
+    let wrong = small_number(book);
+    take_after(book, wrong, longs, shorts, specifics, rows)
+}
+
+// What is refused before the rows: 1, 2, 3, or 20 where there are rows of interest or equity.
+fn small_number(book: &[u8]) -> u8
+    ensures { λ r. ⌜ r ≡ smallNumber (now (book .entry)) ⌝ }
+{
+    let contents = book::contents::contents_refusal(book);
+    if contents != 0 {
+        return contents;
+    }
+    let counts = book::contents::counts(book);
+    if (counts.interest as usize) + (counts.equity as usize) != 0 {
+        20
+    } else {
+        0
+    }
+}
+
+// Takes the rows of a book, unless a number refuses it before them; where none does, its contents passed.
+fn take_after(
+    book: &[u8],
+    wrong: u8,
+    longs: &mut [u64; SLOTS],
+    shorts: &mut [u64; SLOTS],
+    specifics: &mut [u64; GROUP_SLOTS],
+    rows: &mut [u16; GROUP_SLOTS],
+) -> Taken
+    requires { ⌜ (wrong ≡ 0 → contentsRefusal (now book) ≡ 0) ⌝ }
+    requires { ⌜ Clear (now longs) (now shorts) (now specifics) (now rows) ⌝ }
+    ensures { λ r. ⌜ PassOf (refusalAfter wrong (legsOf (now (book .entry)))) (legsOf (now (book .entry))) r (now (longs .exit)) (now (shorts .exit)) (now (specifics .exit)) (now (rows .exit)) ⌝ }
+{
     if wrong != 0 {
         return refused_at(wrong, 0);
     }

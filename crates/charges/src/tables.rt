@@ -1,6 +1,8 @@
 // Parts of the tables of sums, as the charges take them.
+use crate::slots::COMMODITY;
 use crate::slots::GROUP_SLOTS;
 use crate::slots::GROUPS;
+use crate::slots::SLOTS;
 use ladder::BANDS;
 use ladder::COMMODITY_BANDS;
 ghost use mathlib.Core.Path.{_≡_};
@@ -12,8 +14,8 @@ ghost use Rattle.sums.specs.Inner.Tables.{Reads};
 ghost use Rattle.ladder.specs.Commodity.{commodityBandCount};
 ghost use Rattle.ladder.specs.Inner.Steps.{limit, bandCount};
 ghost use Rattle.charges.specs.Charges.{groups};
-ghost use Rattle.charges.specs.Inner.Slots.{groupCount, groupSlots};
-ghost use Rattle.charges.specs.Inner.Tables.{UsedOf};
+ghost use Rattle.charges.specs.Inner.Slots.{groupCount, groupSlots, slotCount};
+ghost use Rattle.charges.specs.Inner.Tables.{mostGross, commodityAt, bandSum, UsedOf};
 ghost use Rattle.charges.specs.Inner.Answers.{mostTotal};
 
 // Some groups of a class, at the front of the list, and how many they are.
@@ -49,6 +51,34 @@ pub fn commodity_bands(table: &[u64], first: usize) -> [u64; COMMODITY_BANDS]
         k += 1;
     }
     out
+}
+
+// The sum of a commodity's bands, on one side, from a slot on.
+fn band_sum(table: &[u64], first: usize) -> u64
+    requires { ⌜ (first + commodityBandCount ≤ length (now table)) × (bandSum (now table) first ≤ mostGross) ⌝ }
+    ensures { λ r. ⌜ r ≡ bandSum (now (table .entry)) first ⌝ }
+{
+    let mut sum: u64 = 0;
+    let mut k: usize = 0;
+    while k < COMMODITY_BANDS {
+        sum += table[first + k];
+        k += 1;
+    }
+    sum
+}
+
+// The sums of all commodities, on one side, whatever their bands.
+pub fn commodity_sums(table: &[u64; SLOTS]) -> [u64; GROUPS]
+    requires { ⌜ (length (now table) ≡ slotCount) × ((group : ℕ) → group < groupCount → bandSum (now table) (commodityAt group) ≤ mostGross) ⌝ }
+    ensures { λ r. ⌜ Reads groupCount (λ group. bandSum (now (table .entry)) (commodityAt group)) r ⌝ }
+{
+    let mut sums = [0u64; GROUPS];
+    let mut group: usize = 0;
+    while group < GROUPS {
+        sums[group] = band_sum(table, COMMODITY + COMMODITY_BANDS * group);
+        group += 1;
+    }
+    sums
 }
 
 // The groups of a class that have rows, listed without a branch: a group is written after those before it, and counts where it has rows.

@@ -1,4 +1,4 @@
--- The six charges of rows put together, permuted, and mirrored, and those of each currency, for every accepted table.
+-- The charges of rows put together, permuted, and mirrored, and those of each currency, for every accepted table.
 -- Assumes nothing.
 use Prim.Native.Nat.{ℕ, _+_, _*_, _≤_, _<_}
 use mathlib.Core.Path.{_≡_, refl, ap, _∙_, fun-ext}
@@ -12,15 +12,16 @@ use Rattle.ladder.specs.Position.{Bands}
 use Rattle.ladder.specs.declared.Table.{Table}
 use Rattle.ladder.specs.Interest.{interestFigures}
 use Rattle.ladder.specs.Commodity.{commodityFigures}
-use Rattle.ladder.specs.Nets.{absoluteNets, shorthand}
+use Rattle.ladder.specs.Nets.{absoluteNets, shorthand, simplified}
 use Rattle.ladder.specs.Rows.{weighing, AtMostTwoZones}
 use Rattle.ladder.proofs.Netting.{absolutes-joined, absolutes-mirrored, shorthand-joined, shorthand-mirrored}
+use Rattle.ladder.proofs.Netting as Netting
 use Rattle.ladder.proofs.Books.{Exchanges, currency-joined, general-joined, commodity-joined, nets-joined, grouped-permuted, groupsOf-permuted, general-mirrored, commodity-mirrored, nets-mirrored}
 use Rattle.ladder.specs.Inner.Steps.{TableBounds}
 use Rattle.charges.specs.Bands.{lowCoupon, interestBand, commodityBand, bandIn}
 use Rattle.charges.specs.Weights.{interestWeight, equityWeight, specificWeight}
 use Rattle.charges.specs.Charges.{eightPerCent, groups, currencies, reading, specificOf, specificCharge, interestFiguresOf, commodityFiguresOf}
-use Rattle.charges.specs.Charges.{interestGeneral, equityGeneral, exchangeGeneral, commodityGeneral, interestRisk, equityRisk, ofGroup, byCurrency}
+use Rattle.charges.specs.Charges.{interestGeneral, equityGeneral, exchangeGeneral, commodityGeneral, simplifiedCommodity, interestRisk, equityRisk, ofGroup, byCurrency}
 use Rattle.charges.specs.Inner.Slots.{groupCount}
 use Rattle.charges.proofs.Currencies.{alone-general}
 
@@ -46,6 +47,10 @@ module _ (rows more : List Row) where
   pub commodities-joined : commodityGeneral (rows ++ more) ≤ commodityGeneral rows + commodityGeneral more
   unfolding commodityGeneral commodityFiguresOf
   commodities-joined = commodity-joined (reading 4) groups rows more
+
+  pub simplified-joined : simplifiedCommodity (rows ++ more) ≤ simplifiedCommodity rows + simplifiedCommodity more
+  unfolding simplifiedCommodity
+  simplified-joined = nets-joined (reading 4) (simplified groups) (Netting.simplified-joined groups) rows more
 
   -- and of one currency: the premise is its own
   pub specific-alone-joined : (class g : ℕ) → specificCharge class (ofGroup g (rows ++ more)) ≡ specificCharge class (ofGroup g rows) + specificCharge class (ofGroup g more)
@@ -117,6 +122,14 @@ commodity-invariant =
     record {
       permuted = grouped-permuted (reading 4) (λ f. (commodityFigures f) .charge) groups;
       mirrored = commodity-mirrored (reading 4) groups mirroredLeg (mirrored-exchanges 4);
+    }
+
+pub simplified-invariant : Invariant simplifiedCommodity
+unfolding simplifiedCommodity
+simplified-invariant =
+    record {
+      permuted = λ p. ap (simplified groups) (groupsOf-permuted (reading 4) p);
+      mirrored = nets-mirrored (reading 4) (simplified groups) (Netting.simplified-mirrored groups) mirroredLeg (mirrored-exchanges 4);
     }
 
 -- both parts of a class's charge

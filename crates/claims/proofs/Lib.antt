@@ -1,4 +1,5 @@
 -- The claims, proved.
+pub mod SmallBank
 pub mod Reader
 pub mod Charging
 pub mod Joining

@@ -2,7 +2,7 @@
 -- Assumes nothing.
 use Prim.Native.Nat.{ℕ, _≤_}
 use mathlib.Core.Path.{_≡_, refl, sym, ap, _∙_}
-use mathlib.Core.Logic.{inl, inr}
+use mathlib.Core.Logic.{_⊎_, inl, inr}
 use mathlib.Core.List.{List, map, Perm, Perm·map, perm-iff-count, List-discrete}
 use native.Mathlib.Decide.{ℕ-discrete}
 use native.Mathlib.Omega.{arith}
@@ -48,19 +48,19 @@ body-of {d} {rows} r = pick (r .bodies)
     pick (also one (also two (also three (also four none)))) = of-four P one two three four
 
 -- ---- a book d of c's size and counts, whose rows are in some order clean rows that cost what c's do
-record Ordered (c d : List ℕ) (legs : ℕ → List Row) : Type 1 where
-  counts : countsOf d ≡ countsOf c
-  size : length d ≡ length c
-  order : (class : ℕ) → 1 ≤ class → class ≤ 4 → Perm (legs class) (map decode (rowsOf d class))
-  clean : (class : ℕ) → 1 ≤ class → class ≤ 4 → Every (Clean class) (legs class)
-  same : {A : Type 0} (cost : List Row → A) → Invariant cost → (class : ℕ) → cost (legs class) ≡ cost (map decode (rowsOf c class))
+pub record Ordered (c d : List ℕ) (legs : ℕ → List Row) : Type 1 where
+  pub counts : countsOf d ≡ countsOf c
+  pub size : length d ≡ length c
+  pub order : (class : ℕ) → 1 ≤ class → class ≤ 4 → Perm (legs class) (map decode (rowsOf d class))
+  pub clean : (class : ℕ) → 1 ≤ class → class ≤ 4 → Every (Clean class) (legs class)
+  pub same : {A : Type 0} (cost : List Row → A) → Invariant cost → (class : ℕ) → cost (legs class) ≡ cost (map decode (rowsOf c class))
 
 module _ (c d : List ℕ) (of-c : Accepted c) (legs : ℕ → List Row) (of : Ordered c d legs) where
   class-accepted : (class : ℕ) → 1 ≤ class → class ≤ 4 → Every (λ bytes. Clean class (decode bytes)) (rowsOf d class)
   class-accepted class low high =
       every-mapped decode (λ bytes clean. clean) (rowsOf d class) (clean-permuted class (of .order class low high) (of .clean class low high))
 
-  still-accepted : Accepted d
+  pub still-accepted : Accepted d
   still-accepted =
       record {
         contents = omega (arith, of .size, of-c .contents);
@@ -69,7 +69,7 @@ module _ (c d : List ℕ) (of-c : Accepted c) (legs : ℕ → List Row) (of : Or
         clean = clean-legs d class-accepted;
       }
 
-  same-cost : {A : Type 0} (cost : List Row → A) → Invariant cost → (class : ℕ) → 1 ≤ class → class ≤ 4 → cost (classRows d class) ≡ cost (classRows c class)
+  pub same-cost : {A : Type 0} (cost : List Row → A) → Invariant cost → (class : ℕ) → 1 ≤ class → class ≤ 4 → cost (classRows d class) ≡ cost (classRows c class)
   same-cost cost invariant class low high =
       ap cost (class-rows d class low high)
       ∙ sym (invariant .permuted (of .order class low high))
@@ -128,6 +128,10 @@ mirrored c d of-c same =
       same = λ cost invariant class. invariant .mirrored (map decode (rowsOf c class));
     }
 
+-- either way
+pub rearranged : (c d : List ℕ) → Accepted c → ReorderedBook c d ⊎ MirroredBook c d → (legs : ℕ → List Row) × Ordered c d legs
+rearranged c d of-c (inl order) = (_, reordered c d of-c order)
+rearranged c d of-c (inr mirror) = (_, mirrored c d of-c mirror)
+
 pub ordering : OrderHolds
-ordering table c d e (inl order) = unchanged c d (accepted c e) _ (reordered c d (accepted c e) order) table
-ordering table c d e (inr mirror) = unchanged c d (accepted c e) _ (mirrored c d (accepted c e) mirror) table
+ordering table c d e how = unchanged c d (accepted c e) _ (rearranged c d (accepted c e) how .1) table

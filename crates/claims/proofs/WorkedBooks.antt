@@ -20,13 +20,15 @@ use Rattle.layout.specs.Written.{written}
 use Rattle.layout.specs.Files.{twoBytes, fourBytes, rowBytes, contentsBytes, fileOf, legCounts, bookOf}
 use Rattle.charges.specs.Bands.{firstBand, lowCoupon, interestBand, commodityBand, bandIn}
 use Rattle.charges.specs.Weights.{qualifyingWeight, interestWeight, equityWeight, specificWeight}
-use Rattle.charges.specs.Charges.{specificOf, specificCharge, interestFiguresOf, commodityFiguresOf, interestGeneral, equityGeneral, exchangeGeneral, commodityGeneral, interestRisk, equityRisk, ofGroup, byCurrency}
+use Rattle.charges.specs.Charges.{specificOf, specificCharge, interestFiguresOf, commodityFiguresOf, interestGeneral, equityGeneral, exchangeGeneral, commodityGeneral, simplifiedCommodity, interestRisk, equityRisk, ofGroup, byCurrency}
 use Rattle.charges.specs.Report.{reportWith, refusedReport, chargedReport, before, reportOf, ladderRefusal, interestLadderOf, commodityLadderOf}
+use Rattle.charges.specs.SmallBank.{smallNumber, smallRefusal, smallWith, smallBankOf}
 use Rattle.join.specs.Joined.{addedCounts, joinedCounts, joinedBody, joined, inBook, settled, joinRefusal, joinedOf, joinOutput}
-use Rattle.market_risk.specs.Entries.{refusalEntries, reportFigures, reportEntries, interestEntries, commodityEntries, joinedEntries}
+use Rattle.market_risk.specs.Entries.{refusalEntries, reportFigures, reportEntries, interestEntries, commodityEntries, smallFigures, smallEntries, joinedEntries}
 use Rattle.claims.specs.Demands.{joinedBook}
 use Rattle.claims.specs.Worked.{Worked, worked}
 use Rattle.claims.specs.Tables.{refusedTables, loadedFacts, orderFacts}
+use Rattle.claims.specs.SmallFacts.{smallFacts}
 use Rattle.claims.specs.Facts.{tableFacts, costFacts, currencyFacts, ladderFacts, refusalFacts, joinFacts}
 
 -- what the definitions give: an unfolding is inherited, so each layer names its own and `given` unfolds with all of them
@@ -55,15 +57,15 @@ unfolding firstBand lowCoupon interestBand commodityBand bandIn qualifyingWeight
 weights facts = facts
 
 unfoldable charges : List Worked → List Worked
-unfolding specificOf specificCharge interestFiguresOf commodityFiguresOf interestGeneral equityGeneral exchangeGeneral commodityGeneral interestRisk equityRisk ofGroup byCurrency ℕ-discrete
+unfolding specificOf specificCharge interestFiguresOf commodityFiguresOf interestGeneral equityGeneral exchangeGeneral commodityGeneral simplifiedCommodity interestRisk equityRisk ofGroup byCurrency ℕ-discrete
 charges facts = facts
 
 unfoldable answers : List Worked → List Worked
-unfolding refusalEntries reportFigures reportEntries interestEntries commodityEntries joinedEntries
+unfolding refusalEntries reportFigures reportEntries interestEntries commodityEntries smallFigures smallEntries joinedEntries
 answers facts = facts
 
 unfoldable pub given : List Worked → List (List ℕ)
-unfolding file refusals ladders tables writing weights charges answers reportWith refusedReport chargedReport before reportOf ladderRefusal interestLadderOf commodityLadderOf
+unfolding file refusals ladders tables writing weights charges answers reportWith refusedReport chargedReport before reportOf ladderRefusal interestLadderOf commodityLadderOf smallNumber smallRefusal smallWith smallBankOf
 given facts = map (λ w. w .given) (file (refusals (ladders (tables (writing (weights (charges (answers facts))))))))
 
 pub expected : List Worked → List (List ℕ)
@@ -105,6 +107,10 @@ loaded-facts = refl
 pub order-facts : given orderFacts ≡ expected orderFacts
 unfolding given expected orderFacts
 order-facts = refl
+
+pub small-facts : given smallFacts ≡ expected smallFacts
+unfolding given expected smallFacts
+small-facts = refl
 
 pub join-facts : given joinFacts ≡ expected joinFacts
 unfolding given expected joinFacts

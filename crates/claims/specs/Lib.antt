@@ -4,6 +4,8 @@ pub mod Orders
 pub mod Demands
 pub mod Currencies
 pub mod AddingUp
+pub mod SmallBank
 pub mod Worked
 pub mod Facts
 pub mod Tables
+pub mod SmallFacts

@@ -8,7 +8,7 @@ use Rattle.sums.specs.Sums.{span}
 use Rattle.ladder.specs.Table.{Percents}
 use Rattle.ladder.specs.Interest.{zones, matches, interestFigures}
 use Rattle.ladder.specs.Commodity.{Carried, nothing, toBand, carry, carryFigures, commodityFigures}
-use Rattle.ladder.specs.Nets.{absoluteNets, shorthand}
+use Rattle.ladder.specs.Nets.{absoluteNets, shorthand, simplified}
 use Rattle.ladder.specs.Inner.Steps.{zoneOf}
 use Rattle.ladder.proofs.Gathering.{same-zone, matches-combined}
 
@@ -57,3 +57,6 @@ absolutes-agree {n} agree = ap gross (total-agree agree net 0 n (omega arith))
 
 pub shorthand-agree : {m : ℕ} {f g : Bands} → Agree (suc m) f g → shorthand (span 1 m) f ≡ shorthand (span 1 m) g
 shorthand-agree {m} agree = rw (total-agree agree net 1 m (omega arith), agree .below 0 (omega arith))
+
+pub simplified-agree : {n : ℕ} {f g : Bands} → Agree n f g → simplified (span 0 n) f ≡ simplified (span 0 n) g
+simplified-agree agree = rw (absolutes-agree agree, gross-agree agree)

@@ -1,14 +1,14 @@
 -- Charges on nets: two books joined cost at most the two together, and a mirrored book costs the same.
 -- Assumes nothing.
-use Prim.Native.Nat.{ℕ, _+_, _≤_}
-use mathlib.Core.Path.{_≡_, ap₂}
+use Prim.Native.Nat.{ℕ, _+_, _*_, _≤_}
+use mathlib.Core.Path.{_≡_, ap, ap₂}
 use mathlib.Core.List.{List, _∷_}
 use native.Mathlib.Nat.{add-comm, max-comm}
 use native.Mathlib.Omega.{arith}
 use Rattle.ladder.specs.Position.{Bands, gross, total}
-use Rattle.ladder.specs.Nets.{absoluteNets, shorthand}
+use Rattle.ladder.specs.Nets.{absoluteNets, shorthand, simplified}
 use Rattle.ladder.proofs.Matching.{takes-matched, takes-gross, absoluteNet-joined, absoluteNet-mirrored}
-use Rattle.ladder.proofs.Totals.{_⊞_, mirror, takes-vertical, bandNets-joined, bandNets-mirrored}
+use Rattle.ladder.proofs.Totals.{_⊞_, mirror, takes-vertical, total-joined, total-mirrored, bandNets-joined, bandNets-mirrored}
 
 module _ (list : List ℕ) where
   pub absolutes-joined : (f g : Bands) → absoluteNets list (f ⊞ g) ≤ absoluteNets list f + absoluteNets list g
@@ -30,3 +30,13 @@ module _ (list : List ℕ) where
   pub shorthand-within : (f : Bands) → shorthand list f ≤ gross (total f (0 ∷ list))
   unfolding total
   shorthand-within f = omega (arith, takes-gross (takes-vertical f list), takes-gross (takes-matched (f 0)))
+
+  -- net and gross
+  pub simplified-joined : (f g : Bands) → simplified list (f ⊞ g) ≤ simplified list f + simplified list g
+  simplified-joined f g = omega (arith, absolutes-joined f g, ap gross (total-joined f g list))
+
+  pub simplified-mirrored : (f : Bands) → simplified list (mirror f) ≡ simplified list f
+  simplified-mirrored f = omega (arith, absolutes-mirrored f, ap gross (total-mirrored f list))
+
+  pub simplified-within : (f : Bands) → simplified list f ≤ 180000 * gross (total f list)
+  simplified-within f = omega (arith, absolutes-within f)

@@ -1,7 +1,7 @@
--- Charges on nets alone: equity's general charge, and foreign exchange by the shorthand method. A group number stands for a band number.
-use Prim.Native.Nat.{ℕ, _+_, max}
+-- Charges on nets: equity's general charge, foreign exchange by the shorthand method, and commodities by the simplified one. A group number stands for a band number.
+use Prim.Native.Nat.{ℕ, _+_, _*_, max}
 use mathlib.Core.List.{List}
-use Rattle.ladder.specs.Position.{Position, Bands, gross, absoluteNet, bandNets}
+use Rattle.ladder.specs.Position.{Position, Bands, gross, absoluteNet, total, bandNets}
 
 -- the absolute nets of some groups, summed (document 01, Equity and foreign exchange)
 abbrev pub absoluteNets : List ℕ → Bands → ℕ
@@ -15,3 +15,7 @@ greater a = max (a .long) (a .short)
 -- (document 01, Equity and foreign exchange)
 abbrev pub shorthand : List ℕ → Bands → ℕ
 shorthand list f = greater (bandNets f list) + absoluteNet (f 0)
+
+-- 15% of each commodity's absolute net and 3% of its gross, summed (document 01, The simplified approach; P11)
+abbrev pub simplified : List ℕ → Bands → ℕ
+simplified list f = 150000 * absoluteNets list f + 30000 * gross (total f list)

@@ -14,7 +14,7 @@ ghost use Rattle.ladder.specs.Position.{gross, total};
 ghost use Rattle.ladder.specs.Table.{AcceptedPercents};
 ghost use Rattle.ladder.specs.Interest.{charge, allBands, zones};
 ghost use Rattle.ladder.specs.Commodity.{commodityBands};
-ghost use Rattle.ladder.specs.Nets.{absoluteNets, shorthand};
+ghost use Rattle.ladder.specs.Nets.{absoluteNets, shorthand, simplified};
 ghost use Rattle.ladder.specs.Inner.Steps.{limit, commodityLimit, bands, InterestOf, CommodityOf, NetsOf};
 
 // The bands of a ladder: in interest, and in commodities.
@@ -154,4 +154,16 @@ pub fn shorthand(longs: &[u64], shorts: &[u64], many: usize) -> u64
         short: shorts[0],
     }.net();
     greater(nets.long, nets.short) + (gold.left.long + gold.left.short)
+}
+
+// Commodities by the simplified approach: 15% of the absolute net of each of so many commodities and 3% of its gross, in mils.
+pub fn simplified(longs: &[u64], shorts: &[u64], many: usize) -> u64
+    requires { ⌜ (many ≤ length (now longs)) × (many ≤ length (now shorts)) ⌝ }
+    requires { ⌜ gross (total (bands (now longs) (now shorts)) (span 0 many)) ≤ commodityLimit ⌝ }
+    ensures { λ r. ⌜ r ≡ simplified (span 0 many) (bands (now (longs .entry)) (now (shorts .entry))) ⌝ }
+{
+    let all = bands::zone_of(longs, shorts, 0, many);
+    let gross = all.gross;
+    let net = all.nets.long + all.nets.short;
+    150000 * net + 30000 * gross
 }

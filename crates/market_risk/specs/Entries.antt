@@ -5,6 +5,7 @@ use Rattle.book.specs.declared.Refusal.{Refusal}
 use Rattle.charges.specs.declared.Report.{Report}
 use Rattle.charges.specs.declared.InterestLadder.{InterestLadder}
 use Rattle.charges.specs.declared.CommodityLadder.{CommodityLadder}
+use Rattle.charges.specs.declared.SmallBank.{SmallBank}
 use Rattle.join.specs.declared.Joined.{Joined}
 
 -- number, row, book (document 01, Who is told no, and why)
@@ -37,6 +38,13 @@ unfoldable pub commodityEntries : CommodityLadder → List ℕ
 commodityEntries ladder =
     refusalEntries (ladder .refusal) ++
     (ladder .figures .matches ∷ ladder .figures .carried ∷ ladder .figures .residual ∷ ladder .figures .charge ∷ [])
+
+-- a small bank's two charges and the total (P11), and the refusal before them
+unfoldable pub smallFigures : SmallBank → List ℕ
+smallFigures bank = bank .exchange ∷ bank .commodity ∷ bank .total ∷ []
+
+unfoldable pub smallEntries : SmallBank → List ℕ
+smallEntries bank = refusalEntries (bank .refusal) ++ smallFigures bank
 
 -- the refusal, the joined length (document 01, Joining)
 unfoldable pub joinedEntries : Joined → List ℕ

@@ -6,8 +6,9 @@ ghost use Rattle.book.specs.Refusals.{refusalOf};
 ghost use Rattle.table.specs.Loaded.{standardBytes};
 ghost use Rattle.layout.specs.Written.{written};
 ghost use Rattle.charges.specs.Report.{reportOf, interestLadderOf, commodityLadderOf};
+ghost use Rattle.charges.specs.SmallBank.{smallBankOf};
 ghost use Rattle.join.specs.Joined.{joinedOf, joinOutput};
-ghost use Rattle.market_risk.specs.Entries.{refusalEntries, reportEntries, interestEntries, commodityEntries, joinedEntries};
+ghost use Rattle.market_risk.specs.Entries.{refusalEntries, reportEntries, interestEntries, commodityEntries, smallEntries, joinedEntries};
 
 // The entries of a report: its refusal and figures, and two for each currency.
 const REPORT: usize = 75;
@@ -114,6 +115,22 @@ pub extern "C" fn market_risk_commodity_ladder(book: &[u8], group: usize, out: &
         ladder.figures.carried,
         ladder.figures.residual,
         ladder.figures.charge,
+    ];
+}
+
+// The figures of a bank with foreign exchange and commodities alone.
+#[no_mangle]
+pub extern "C" fn market_risk_small_bank(book: &[u8], out: &mut [u64; 6])
+    ensures { λ r. ⌜ now (out .exit) ≡ smallEntries (smallBankOf (now (book .entry))) ⌝ }
+{
+    let bank = charges::small_bank(book);
+    *out = [
+        bank.refusal.number as u64,
+        bank.refusal.row as u64,
+        bank.refusal.book as u64,
+        bank.exchange,
+        bank.commodity,
+        bank.total,
     ];
 }
 

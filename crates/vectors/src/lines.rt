@@ -75,6 +75,15 @@ pub fn commodity_ladder(book: &[u8], group: usize) {
     end();
 }
 
+pub fn small_bank(book: &[u8]) {
+    let bank = charges::small_bank(book);
+    start(b"small-bank", bank.refusal);
+    figure(bank.exchange);
+    figure(bank.commodity);
+    figure(bank.total);
+    end();
+}
+
 // Document 01's table, byte by byte.
 pub fn standard_table() {
     let table = table::standard();

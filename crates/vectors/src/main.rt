@@ -29,6 +29,7 @@ fn answer_book(call: u8, in_runs: bool, table: &[u8]) -> bool {
         1 => lines::check(&space[..n]),
         2 => lines::charge(&space[..n], table),
         3 => lines::interest_ladder(&space[..n], table, group),
+        9 => lines::small_bank(&space[..n]),
         _ => lines::commodity_ladder(&space[..n], group),
     }
     true
@@ -80,6 +81,7 @@ fn answer_next() -> bool {
         6 => answer_by_table(2, in_runs),
         7 => answer_by_table(3, in_runs),
         8 => answer_table(),
+        9 => answer_standard(call, in_runs),
         _ => false,
     }
 }

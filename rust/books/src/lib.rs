@@ -10,6 +10,7 @@ pub mod file;
 pub mod generate;
 pub mod names;
 pub mod random;
+pub mod small;
 pub mod tables;
 
 pub use file::{Book, Row, CLASSES, MOST_ROWS, ROW_BYTES};

@@ -84,11 +84,11 @@ pub fn equity(sums: &Sums) -> u64 {
     80_000 * nets.sum::<u64>()
 }
 
-/// The foreign exchange charge.
-pub fn exchange(sums: &Sums) -> u64 {
-    let longs: i64 = sums.exchange[1..].iter().map(|net| 0.max(*net)).sum();
-    let shorts: i64 = sums.exchange[1..].iter().map(|net| 0.max(-*net)).sum();
-    80_000 * (longs.max(shorts) as u64 + sums.exchange[0].unsigned_abs())
+/// The foreign exchange charge of the nets of all groups.
+pub fn exchange(nets: &[i64; 32]) -> u64 {
+    let longs: i64 = nets[1..].iter().map(|net| 0.max(*net)).sum();
+    let shorts: i64 = nets[1..].iter().map(|net| 0.max(-*net)).sum();
+    80_000 * (longs.max(shorts) as u64 + nets[0].unsigned_abs())
 }
 
 /// The four figures of one commodity's ladder, in the order of the ladder call.

@@ -22,9 +22,11 @@
 
 pub mod raw;
 mod refusal;
+mod small_bank;
 mod table;
 
 pub use refusal::Refusal;
+pub use small_bank::{small_bank, SmallBank};
 pub use table::{PerCents, Table};
 
 /// The six charges of a book and their total, in mils, how many rows were taken, and the two

@@ -30,6 +30,7 @@ mod c {
             group: usize,
             out: *mut u64,
         );
+        pub fn market_risk_small_bank(book: *const u8, len: usize, out: *mut u64);
         pub fn market_risk_join(
             a: *const u8,
             a_len: usize,
@@ -89,6 +90,12 @@ pub fn interest_ladder(book: &[u8], table: &[u8], group: usize, out: &mut [u64; 
 pub fn commodity_ladder(book: &[u8], group: usize, out: &mut [u64; 7]) {
     // SAFETY: as in `check`; every group is allowed.
     unsafe { c::market_risk_commodity_ladder(book.as_ptr(), book.len(), group, out.as_mut_ptr()) }
+}
+
+/// Number, row, book; exchange, commodity, total.
+pub fn small_bank(book: &[u8], out: &mut [u64; 6]) {
+    // SAFETY: as in `check`.
+    unsafe { c::market_risk_small_bank(book.as_ptr(), book.len(), out.as_mut_ptr()) }
 }
 
 /// Number, row, book; the length of the joined book at the front of `out`.

@@ -16,7 +16,7 @@ use std::fmt;
 /// ```
 #[derive(Clone, Copy, Debug, PartialEq, Eq)]
 pub struct Refusal {
-    /// 1 to 12, 15, 18 or 19.
+    /// 1 to 12, 15 or 18 to 20.
     pub number: u64,
     /// The bad row, counted from 0 through the whole file; 0 for all but 4 to 9 and 15.
     pub row: u64,
@@ -65,6 +65,7 @@ impl Refusal {
             15 => "fixing over 360 days, or final maturity over 36,000 or before fixing",
             18 => "the table has not 36 bytes",
             19 => "the table's weights fall or exceed 2,000, or its per cents are out of order",
+            20 => "interest or equity rows in a small bank's book",
             _ => "no reason that this interface knows",
         }
     }

@@ -142,7 +142,7 @@ fn every_number_that_is_given_has_words() {
         book: 0,
     };
     let unknown = of(99).reason();
-    for number in (1..=12).chain([15, 18, 19]) {
+    for number in (1..=12).chain([15, 18, 19, 20]) {
         assert_ne!(of(number).reason(), unknown, "{number}");
         let rows = (4..=9).contains(&number) || number == 15;
         assert_eq!(of(number).to_string().contains(" row 3"), rows, "{number}");
@@ -154,24 +154,27 @@ fn every_entry_is_written() {
     let marked = u64::MAX;
     let (mut check, mut charge, mut join) = ([marked; 3], [marked; 75], [marked; 4]);
     let (mut interest, mut commodity) = ([marked; 13], [marked; 7]);
+    let mut small_bank = [marked; 6];
     let table = Table::amendment();
     for book in [&[0; 8][..], &[]] {
         raw::check(book, &mut check);
         raw::charge(book, table.bytes(), &mut charge);
         raw::interest_ladder(book, table.bytes(), 31, &mut interest);
         raw::commodity_ladder(book, 31, &mut commodity);
+        raw::small_bank(book, &mut small_bank);
         raw::join(book, &[0; 8], &mut [0; 8], &mut join);
-        let entries = [&check[..], &charge, &interest, &commodity, &join].concat();
-        assert!(!entries.contains(&marked));
-        [
+        let results = [
             &mut check[..],
             &mut charge,
             &mut interest,
             &mut commodity,
+            &mut small_bank,
             &mut join,
-        ]
-        .iter_mut()
-        .for_each(|out| out.fill(marked));
+        ];
+        for out in results {
+            assert!(!out.contains(&marked));
+            out.fill(marked);
+        }
     }
 }
 

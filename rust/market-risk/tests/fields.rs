@@ -1,7 +1,8 @@
 //! Each named field against its entry of the C interface, on books whose entries differ.
 //! Catches two fields that are exchanged, and one that is read from another's entry.
 
-use market_risk::{charge, commodity_ladder, interest_ladder, join, joined, raw, Refusal, Table};
+use market_risk::{charge, commodity_ladder, interest_ladder, join, joined, raw, small_bank};
+use market_risk::{Refusal, Table};
 
 /// A row of 16 bytes with one signed amount: long above zero, short below.
 fn row(group: u8, kind: u8, days: u16, coupon: u16, net: i32) -> [u8; 16] {
@@ -177,6 +178,18 @@ fn commodity_ladders() {
         ladder.residual,
         ladder.charge,
     ];
+    hold(&[(entries.to_vec(), fields)]);
+}
+
+#[test]
+fn small_banks() {
+    // Gold, 2: 8% is 160,000. Commodity, 1: 15% and 3% are 180,000.
+    let book = book([&[], &[], &[row(0, 0, 0, 0, -2)], &[row(0, 0, 720, 0, 1)]]);
+    let mut entries = [0; 6];
+    raw::small_bank(&book, &mut entries);
+    assert_eq!(entries[3..], [160_000, 180_000, 340_000]);
+    let charged = small_bank(&book).unwrap();
+    let fields = vec![charged.exchange, charged.commodity, charged.total];
     hold(&[(entries.to_vec(), fields)]);
 }
 

@@ -164,12 +164,16 @@ fn rows_of(book: &[u8]) -> Vec<Row> {
         .collect()
 }
 
-/// The rows of a book, or why it is refused.
-pub fn read(book: &[u8]) -> Result<Vec<Row>, Refusal> {
+/// Whether the contents of a book are in order, and if not, why.
+pub fn contents(book: &[u8]) -> Result<(), Refusal> {
     match contents_fault(book) {
-        0 => (),
-        fault => return Err(Refusal::of(fault)),
+        0 => Ok(()),
+        fault => Err(Refusal::of(fault)),
     }
+}
+
+/// The rows of a book whose contents are in order, or the refusal of the first bad one.
+pub fn good_rows(book: &[u8]) -> Result<Vec<Row>, Refusal> {
     let rows = rows_of(book);
     match rows.iter().position(|row| row_fault(row) != 0) {
         None => Ok(rows),
@@ -179,6 +183,12 @@ pub fn read(book: &[u8]) -> Result<Vec<Row>, Refusal> {
             book: 0,
         }),
     }
+}
+
+/// The rows of a book, or why it is refused.
+pub fn read(book: &[u8]) -> Result<Vec<Row>, Refusal> {
+    contents(book)?;
+    good_rows(book)
 }
 
 /// Whether a book is accepted, and if not, why.

@@ -18,6 +18,7 @@ mod join;
 mod kinds;
 mod open;
 mod report;
+mod small_bank;
 mod table;
 
 pub use bands::{commodity_band, interest_band, interest_weight, zone_of_band};
@@ -26,6 +27,7 @@ pub use commodity::{commodity_ladder, CommodityLadder};
 pub use interest::{interest_ladder, zones_used, InterestLadder};
 pub use join::{join, Joined};
 pub use report::{charge, Report};
+pub use small_bank::{small_bank, SmallBank};
 pub use table::{read_table, table, Table, TABLE_BYTES};
 
 /// Groups run from 0 to 31 in every class.

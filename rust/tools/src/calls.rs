@@ -1,8 +1,8 @@
-//! The six calls with the results of the C interface, by whichever calculation.
+//! The seven calls with the results of the C interface, by whichever calculation.
 
 use market_risk::raw;
 
-/// A calculation that answers all six calls, writing every entry of each result.
+/// A calculation that answers all seven calls, writing every entry of each result.
 pub trait Calls {
     /// What the calculation is called in a message. No two have the same name.
     fn name(&self) -> &'static str;
@@ -15,6 +15,8 @@ pub trait Calls {
     fn interest_ladder(&self, book: &[u8], table: &[u8], group: usize, out: &mut [u64; 13]);
     /// Number, row, book; matches, carried, residual, charge.
     fn commodity_ladder(&self, book: &[u8], group: usize, out: &mut [u64; 7]);
+    /// Number, row, book; foreign exchange, commodities, total.
+    fn small_bank(&self, book: &[u8], out: &mut [u64; 6]);
     /// Number, row, book; length.
     fn join(&self, a: &[u8], b: &[u8], out: &mut [u8], result: &mut [u64; 4]);
     /// Document 01's table.
@@ -39,6 +41,9 @@ impl Calls for Proved {
     }
     fn commodity_ladder(&self, book: &[u8], group: usize, out: &mut [u64; 7]) {
         raw::commodity_ladder(book, group, out);
+    }
+    fn small_bank(&self, book: &[u8], out: &mut [u64; 6]) {
+        raw::small_bank(book, out);
     }
     fn join(&self, a: &[u8], b: &[u8], out: &mut [u8], result: &mut [u64; 4]) {
         raw::join(a, b, out, result);
@@ -70,6 +75,10 @@ impl Calls for Second {
 
     fn commodity_ladder(&self, book: &[u8], group: usize, out: &mut [u64; 7]) {
         *out = second::commodity_ladder(book, group).entries();
+    }
+
+    fn small_bank(&self, book: &[u8], out: &mut [u64; 6]) {
+        *out = second::small_bank(book).entries();
     }
 
     fn join(&self, a: &[u8], b: &[u8], out: &mut [u8], result: &mut [u64; 4]) {

@@ -66,7 +66,7 @@ impl Command {
 pub fn overview(commands: &[Command]) -> String {
     let mut text = String::from("market-risk COMMAND ...\n\n");
     for command in commands {
-        text.push_str(&format!("  {:<9}{}\n", command.name, command.brief));
+        text.push_str(&format!("  {:<12}{}\n", command.name, command.brief));
     }
     text.push_str(
         "\nmarket-risk COMMAND --help tells of one. A file named - is standard input or output.\n\

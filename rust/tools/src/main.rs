@@ -8,9 +8,11 @@ mod compare;
 mod files;
 mod join;
 mod ladder;
+mod lines;
 mod pack;
 mod progress;
 mod report;
+mod small_bank;
 mod table;
 mod text;
 mod unpack;
@@ -22,11 +24,12 @@ use std::io::Write;
 use std::process::ExitCode;
 
 /// The subcommands, in the order of the help text.
-const COMMANDS: [Command; 9] = [
+const COMMANDS: [Command; 10] = [
     pack::COMMAND,
     unpack::COMMAND,
     report::COMMAND,
     ladder::COMMAND,
+    small_bank::COMMAND,
     join::COMMAND,
     table::COMMAND,
     compare::COMMAND,

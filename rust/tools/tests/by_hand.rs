@@ -1,87 +1,13 @@
 //! The last lines of the stored ladders, checked as a user does who has the page and a pocket
 //! calculator: each number is one of the tables above, and each line is true as it is printed.
 
-use std::fs;
+mod pocket;
+
+use pocket::{column, is_true, last, line, numbers, stored, Line};
 
 /// The stored ladders of currencies, or of commodities, with their names.
 fn ladders(of: &str) -> Vec<(String, String)> {
-    let folder = format!("{}/../../samples/expected", env!("CARGO_MANIFEST_DIR"));
-    let files = fs::read_dir(folder).unwrap().map(|file| file.unwrap());
-    let named = files.map(|file| (file.file_name().into_string().unwrap(), file.path()));
-    let wanted = named.filter(|(name, _)| name.contains(&format!(".{of}-")));
-    wanted
-        .map(|(name, path)| (name, fs::read_to_string(path).unwrap()))
-        .collect()
-}
-
-/// A printed number in thousandths; nothing for any other word.
-fn number(word: &str) -> Option<i128> {
-    let (sign, digits) = match word.strip_prefix('-') {
-        Some(digits) => (-1, digits),
-        None => (1, word),
-    };
-    let (whole, rest) = digits.split_once('.').unwrap_or((digits, ""));
-    let whole: i128 = whole.replace(',', "").parse().ok()?;
-    let rest: i128 = format!("{rest:0<3}").parse().ok()?;
-    Some(sign * (1_000 * whole + rest))
-}
-
-/// The numbers of a text, in thousandths.
-fn numbers(text: &str) -> Vec<i128> {
-    text.split_whitespace().filter_map(number).collect()
-}
-
-/// What a printed sum comes to, in thousandths: "2 x 525.0 matched + 525.0 residual".
-fn sum(text: &str) -> i128 {
-    let (mut sum, mut sign, mut times) = (0, 1, 1);
-    let words: Vec<&str> = text.split_whitespace().collect();
-    for (at, word) in words.iter().enumerate() {
-        match number(word) {
-            Some(value) if words.get(at + 1) == Some(&"x") => times = value / 1_000,
-            Some(value) => {
-                sum += sign * times * value;
-                times = 1;
-            }
-            None if *word == "-" => sign = -1,
-            None if *word == "+" => sign = 1,
-            None => (),
-        }
-    }
-    sum
-}
-
-/// A line: its name, its figure, the sign and what stands right of it.
-struct Line<'a> {
-    name: &'a str,
-    figure: i128,
-    sign: &'a str,
-    right: &'a str,
-}
-
-/// Takes a line apart.
-fn line(text: &str) -> Line<'_> {
-    let signs = [" = ", " >= ", " <= "];
-    let found = signs
-        .iter()
-        .find_map(|sign| Some((sign, text.split_once(sign)?)));
-    let (sign, (left, right)) = found.unwrap();
-    let (name, figure) = left.trim_end().rsplit_once("  ").unwrap();
-    Line {
-        name: name.trim_end(),
-        figure: number(figure).unwrap(),
-        sign: sign.trim(),
-        right,
-    }
-}
-
-/// Whether a line is true as it is printed.
-fn is_true(line: &Line) -> bool {
-    let (left, right) = (line.figure, sum(line.right));
-    match line.sign {
-        "=" => left == right,
-        ">=" => left >= right,
-        _ => left <= right,
-    }
+    stored(|name| name.contains(&format!(".{of}-")))
 }
 
 /// The bands, the steps and the last lines of a printed ladder, without their titles.
@@ -92,18 +18,6 @@ fn parts(text: &str) -> [Vec<&str>; 3] {
         panic!("not three parts below a title: {text}");
     };
     [(bands, 1), (steps, 1), (lines, 0)].map(|(part, titles)| part.lines().skip(titles).collect())
-}
-
-/// The sum of a column, counted from the end of each line.
-fn column(lines: &[&str], from_end: usize) -> i128 {
-    let cell = |line: &&str| number(line.split_whitespace().rev().nth(from_end).unwrap());
-    lines.iter().map(|line| cell(line).unwrap()).sum()
-}
-
-/// The last number of the line of a table that begins so.
-fn last(lines: &[&str], name: &str) -> i128 {
-    let line = lines.iter().find(|line| line.starts_with(name)).unwrap();
-    *numbers(line).last().unwrap()
 }
 
 /// Catches a number of the last lines that is not the tables', and a line that is not true.
@@ -146,7 +60,7 @@ fn currencies_add_up_as_printed() {
 #[test]
 fn commodities_add_up_as_printed() {
     let ladders = ladders("commodity");
-    assert_eq!(ladders.len(), 4);
+    assert_eq!(ladders.len(), 7);
     for (name, text) in ladders {
         let [bands, charges, lines] = parts(&text);
         let lines: Vec<Line> = lines.iter().map(|text| line(text)).collect();

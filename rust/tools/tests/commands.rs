@@ -9,7 +9,16 @@ use std::fs;
 fn help_for_all_and_each() {
     let all = prints(&["--help"]);
     for command in [
-        "pack", "unpack", "report", "ladder", "join", "table", "compare", "bench", "vectors",
+        "pack",
+        "unpack",
+        "report",
+        "ladder",
+        "small-bank",
+        "join",
+        "table",
+        "compare",
+        "bench",
+        "vectors",
     ] {
         assert!(all.contains(&format!("\n  {command} ")));
         let one = prints(&[command, "--help"]);

@@ -21,6 +21,7 @@ extern "C" {
         out: *mut u64,
     );
     fn market_risk_commodity_ladder(book: *const u8, len: usize, group: usize, out: *mut u64);
+    fn market_risk_small_bank(book: *const u8, len: usize, out: *mut u64);
     fn market_risk_join(
         a: *const u8,
         a_len: usize,
@@ -60,7 +61,7 @@ fn refused_with(number: u64, calls: &[Call]) {
 #[test]
 fn null_with_length_0_is_a_file_of_no_bytes() {
     let (table, length) = (TABLE.as_ptr(), TABLE.len());
-    let calls: [Call; 4] = [
+    let calls: [Call; 5] = [
         // SAFETY, here and below: the header allows null with length 0, and every result
         // has room for its entries.
         (3, &|out| unsafe { market_risk_check(null(), 0, out) }),
@@ -73,6 +74,7 @@ fn null_with_length_0_is_a_file_of_no_bytes() {
         (7, &|out| unsafe {
             market_risk_commodity_ladder(null(), 0, 7, out)
         }),
+        (6, &|out| unsafe { market_risk_small_bank(null(), 0, out) }),
     ];
     refused_with(1, &calls);
 }

@@ -14,7 +14,7 @@ use stored::{all, names, samples, Print, Stored};
 fn every_print_is_stored_and_nothing_else() {
     let wanted: BTreeSet<String> = all().iter().map(Stored::name).collect();
     assert_eq!(names(&format!("{}/expected", samples()), ".txt"), wanted);
-    assert_eq!(wanted.len(), 43);
+    assert_eq!(wanted.len(), 51);
     assert_eq!(
         names(&samples(), ".table"),
         BTreeSet::from(["steps".into()])
@@ -41,7 +41,7 @@ fn every_line_of_the_stored_texts_is_calculated_again() {
 }
 
 /// The totals and charges, worked by hand in document 01 and in samples/README.md.
-const BY_HAND: [(&str, &str); 34] = [
+const BY_HAND: [(&str, &str); 42] = [
     ("empty.report", "0.000"),
     ("swap.report", "4,793,392.500"),
     ("swap.currency-7", "4,580,112.500"),
@@ -76,6 +76,14 @@ const BY_HAND: [(&str, &str); 34] = [
     ("steps.table.currency-9", "7,823.000"),
     ("steps.table.currencies", "19,328.800"),
     ("steps.table.report", "22,604.800"),
+    ("empty.small-bank", "0.000"),
+    ("fx.small-bank", "26,800.000"),
+    ("commodity.small-bank", "120,000.000"),
+    ("small-bank.small-bank", "136,800.000"),
+    ("small-bank.report", "132,000.000"),
+    ("small-bank.commodity-0", "2,880.000"),
+    ("small-bank.commodity-4", "27,600.000"),
+    ("small-bank.commodity-9", "22,320.000"),
 ];
 
 /// Catches a stored charge that both calculations would have wrong.
@@ -86,11 +94,11 @@ fn the_charges_are_those_worked_by_hand() {
         let stored = all.iter().find(|stored| stored.name() == name).unwrap();
         let text = stored.text();
         let title = match stored.print {
-            Print::Report => "total",
+            Print::Report | Print::SmallBank => "total",
             Print::Currencies => "all",
             Print::Currency(_) | Print::Commodity(_) => "charge",
         };
-        // The charge of a ladder comes again in its last lines.
+        // The charge of a ladder and a small bank's total come again in the last lines.
         let line = text.lines().find(|line| line.starts_with(title)).unwrap();
         assert_eq!(line.split_whitespace().last(), Some(expected), "{name}");
     }

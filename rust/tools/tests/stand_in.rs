@@ -9,14 +9,14 @@ use stand_in_library::{fails, run, told_of, BY, CALLS};
 
 /// Catches a comparison that does not reach the linked library: of the second calculation
 /// with itself, or by a `Proved` that is answered from elsewhere, in any of the calls. The
-/// sixth, whose result is no entries, is taken out among the faults of tables.
+/// last, whose result is no entries, is taken out among the faults of tables.
 #[test]
 fn compare_fails_without_each_call() {
     let words = ["compare", "--seed", "1", "--count", "300"];
     let whole = run("none", &words);
     assert!(whole.status.success());
     assert!(String::from_utf8_lossy(&whole.stdout).contains(" 300 pairs equal "));
-    for call in &CALLS[..5] {
+    for call in &CALLS[..6] {
         let error = fails(call, &words);
         let told = format!("\n{}{BY}entry ", call.replace('_', " "));
         assert!(error.contains(&told), "without {call}: {error}");

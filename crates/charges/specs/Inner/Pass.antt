@@ -7,7 +7,7 @@ use lib.Dec.{eqb}
 use lib.ListN.{length, take}
 use Rattle.book.specs.declared.Refusal.{Refusal}
 use Rattle.book.specs.Legs.{Leg}
-use Rattle.book.specs.Refusals.{rowRefusal, refused}
+use Rattle.book.specs.Refusals.{rowRefusal, refused, firstRefusal}
 use Rattle.charges.specs.Inner.Slots.{LegSums, Added}
 pub use Rattle.charges.specs.declared.pass.Taken.{Taken}
 
@@ -23,6 +23,10 @@ pub record Took (leg : Leg) (number : ℕ) (longs shorts specifics rows longs′
 -- a refusal at a row: none is taken
 unfoldable pub refusedAt : ℕ → ℕ → Taken
 refusedAt number row = record { refusal = refused number row; rows = 0 }
+
+-- a refusal by a number that comes before the rows, or else by the first bad one
+unfoldable pub refusalAfter : ℕ → List Leg → Refusal
+refusalAfter number legs = cond (eqb number 0) (firstRefusal 0 legs) (refused number 0)
 
 -- a refusal of some legs, and how many were taken: all, or none where there is a refusal (P4)
 unfoldable pub takenOf : Refusal → List Leg → Taken

@@ -5,7 +5,7 @@ use mathlib.Core.Bool.{cond}
 use mathlib.Core.List.{List, [], _∷_}
 use lib.Dec.{eqb}
 use lib.ListN.{getD, take}
-use Rattle.sums.specs.Sums.{span}
+use Rattle.sums.specs.Sums.{sumOf, span}
 use Rattle.book.specs.Refusals.{mostRows, mostAmount}
 use Rattle.ladder.specs.Position.{Bands, gross, total}
 use Rattle.ladder.specs.declared.Percents.{Percents}
@@ -44,6 +44,13 @@ currencyAt group = bandCount * group
 
 abbrev pub commodityAt : ℕ → ℕ
 commodityAt group = commodityFirst + commodityBandCount * group
+
+-- what a commodity's bands come to on one side, from a slot on; and the position of each commodity, whatever its bands
+abbrev pub bandSum : List ℕ → ℕ → ℕ
+bandSum table first = sumOf (λ k. getD table (first + k) 0) (span 0 commodityBandCount)
+
+abbrev pub commodityGroups : List ℕ → List ℕ → Bands
+commodityGroups longs shorts = λ group. record { long = bandSum longs (commodityAt group); short = bandSum shorts (commodityAt group) }
 
 -- the groups of a list that are counted, in their order
 unfoldable pub countedGroups : (ℕ → ℕ) → List ℕ → List ℕ

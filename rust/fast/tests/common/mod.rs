@@ -4,7 +4,7 @@
 /// What a result holds before a call, which must overwrite every entry.
 const OLD: u64 = 0x5555;
 
-/// Compares the four calls on one book, under document 01's table.
+/// Compares the five calls on one book, under document 01's table.
 pub fn compare(book: &[u8], group: usize) {
     let (mut check, mut commodity) = ([OLD; 3], [OLD; 7]);
     fast::check(book, &mut check);
@@ -12,7 +12,16 @@ pub fn compare(book: &[u8], group: usize) {
     assert_eq!(check, second::check(book).entries(), "{book:?}");
     let ladder = second::commodity_ladder(book, group);
     assert_eq!(commodity, ladder.entries(), "{book:?}");
+    compare_small_bank(book);
     compare_under(&second::table(), book, group);
+}
+
+/// Compares the small bank's call and gives the number of its refusal.
+pub fn compare_small_bank(book: &[u8]) -> u64 {
+    let mut small_bank = [OLD; 6];
+    fast::small_bank(book, &mut small_bank);
+    assert_eq!(small_bank, second::small_bank(book).entries(), "{book:?}");
+    small_bank[0]
 }
 
 /// Compares the two calls that take a table, and gives the number of the charge's refusal.

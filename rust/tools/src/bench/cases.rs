@@ -2,7 +2,7 @@
 
 use books::generate::{row, Shape};
 use books::tables::Table;
-use books::{Book, Random, CLASSES, ROW_BYTES};
+use books::{Book, Random, ROW_BYTES};
 
 /// Books of one sort, pairs of books that have as many rows together, and a table.
 pub struct Case {
@@ -11,6 +11,8 @@ pub struct Case {
     pub books: Vec<Vec<u8>>,
     pub pairs: [Vec<Vec<u8>>; 2],
     pub table: Vec<u8>,
+    /// Whether the small bank's call is timed on the case, or all others.
+    pub small_bank: bool,
 }
 
 impl Case {
@@ -30,6 +32,16 @@ const SORTS: [(&str, usize, &[usize]); 8] = [
     ("all classes", 40, &[0, 1, 2, 3]),
     ("all classes", 400, &[0, 1, 2, 3]),
     ("all classes", 4_000, &[0, 1, 2, 3]),
+];
+
+/// The sorts of small banks, which have neither interest nor equity rows.
+const SMALL_BANKS: [(&str, usize, &[usize]); 6] = [
+    ("no rows", 0, &[2]),
+    ("fx", 400, &[2]),
+    ("commodity", 400, &[3]),
+    ("fx and commodity", 40, &[2, 3]),
+    ("fx and commodity", 400, &[2, 3]),
+    ("fx and commodity", 4_000, &[2, 3]),
 ];
 
 /// How many books of a sort there are: a power of two, 16 to 128. So many keep the processor
@@ -69,6 +81,7 @@ fn accepted(name: &'static str, rows: usize, classes: &[usize]) -> Case {
         books: series(0, rows, rows, classes),
         pairs: [1, 2].map(|number| series(number, rows, half, classes)),
         table: second::table().to_vec(),
+        small_bank: false,
     }
 }
 
@@ -102,9 +115,8 @@ fn spoil(book: &mut [u8]) {
 }
 
 /// A case of books, and of second books of a pair, that are refused at the last row.
-fn refused() -> Case {
-    let all: Vec<usize> = (0..CLASSES).collect();
-    let mut case = accepted("refused, last row", 400, &all);
+fn refused(classes: &[usize]) -> Case {
+    let mut case = accepted("refused, last row", 400, classes);
     let books = case.books.iter_mut().chain(&mut case.pairs[1]);
     books.for_each(|book| spoil(book));
     case
@@ -114,28 +126,40 @@ fn refused() -> Case {
 pub fn cases() -> Vec<Case> {
     let sorts = SORTS.iter();
     let accepted = sorts.map(|(name, rows, classes)| accepted(name, *rows, classes));
-    accepted.chain([refused(), under_own_table()]).collect()
+    let others = [refused(&[0, 1, 2, 3]), under_own_table()];
+    accepted.chain(others).chain(small_banks()).collect()
+}
+
+/// The cases of small banks.
+fn small_banks() -> impl Iterator<Item = Case> {
+    let sorts = SMALL_BANKS.iter();
+    let accepted = sorts.map(|(name, rows, classes)| accepted(name, *rows, classes));
+    accepted.chain([refused(&[2, 3])]).map(|case| Case {
+        small_bank: true,
+        ..case
+    })
 }
 
 #[cfg(test)]
 mod tests {
     use super::*;
     use books::names::CLASS_NAMES;
+    use books::CLASSES;
 
     /// The rows of each class that a line with this name and so many rows is about.
     fn named(name: &str, rows: usize) -> [usize; CLASSES] {
-        let all = name == "all classes";
-        CLASS_NAMES.map(|class| match class == name {
-            true => rows,
-            false => rows / CLASSES * usize::from(all),
-        })
+        match name {
+            "all classes" => [rows / CLASSES; CLASSES],
+            "fx and commodity" => [0, 0, rows / 2, rows / 2],
+            _ => CLASS_NAMES.map(|class| rows * usize::from(class == name)),
+        }
     }
 
     /// Catches a line whose books are not those that it names.
     #[test]
     fn books_are_what_their_lines_say() {
-        let cases = cases();
-        for case in &cases[..SORTS.len()] {
+        let small_banks = small_banks().take(SMALL_BANKS.len());
+        for case in cases().into_iter().take(SORTS.len()).chain(small_banks) {
             let rows = |bytes: &[u8]| Book::decode(bytes).unwrap().classes.map(|rows| rows.len());
             let expected = named(case.name, case.rows);
             for book in &case.books {
@@ -168,9 +192,13 @@ mod tests {
 
     #[test]
     fn refused_books_are_refused_at_the_last_row() {
-        let case = refused();
+        let case = refused(&[0, 1, 2, 3]);
         for book in &case.books {
             let refusal = market_risk::check(book).unwrap_err();
+            assert_eq!((refusal.number, refusal.row), (9, 399));
+        }
+        for book in &refused(&[2, 3]).books {
+            let refusal = market_risk::small_bank(book).unwrap_err();
             assert_eq!((refusal.number, refusal.row), (9, 399));
         }
         for (a, b) in case.pairs[0].iter().zip(&case.pairs[1]) {
@@ -196,6 +224,20 @@ mod tests {
         assert!(second::read_table(&own.table).is_ok());
         let same = |case: &&Case| (case.name, case.rows) == ("all classes", own.rows);
         assert_eq!(own.books, cases.iter().find(same).unwrap().books);
+    }
+
+    /// Catches a line of the small bank that is refused with 20 before any row is read.
+    #[test]
+    fn small_banks_have_no_other_rows() {
+        for case in cases().iter().filter(|case| case.small_bank) {
+            let number = |book: &Vec<u8>| second::small_bank(book).refusal.number;
+            let expected = if case.name.starts_with("refused") {
+                9
+            } else {
+                0
+            };
+            assert!(case.books.iter().all(|book| number(book) == expected));
+        }
     }
 
     #[test]

@@ -24,7 +24,7 @@ pub const COMMAND: Command = Command {
     brief: "the library's speed beside plain Rust and C",
     help: "market-risk bench [--rounds N]
 
-Times five calls, in one run and taking turns, and prints a table for each: medians of N
+Times six calls, in one run and taking turns, and prints a table for each: medians of N
 rounds in nanoseconds, and ratios, proved / other. Below 1 the proved library is faster.
 
   proved   the proved library
@@ -34,10 +34,11 @@ rounds in nanoseconds, and ratios, proved / other. Below 1 the proved library is
   copy     a floor: a copy of the bytes that a join reads
 
 The books lie in memory: without rows, of one class, of all classes, and refused at the last
-row. Charges and interest ladders are under document 01's table, and in one line more under
-another. A join is of two books with half the rows each; ladders are of each group in turn.
-Before the timing every result is compared with that of the second calculation, and after each
-measurement the last one. Outputs are not cleared between calls.
+row; those of the small bank have foreign exchange and commodities alone. Charges and interest
+ladders are under document 01's table, and in one line more under another. A join is of two
+books with half the rows each; ladders are of each group in turn. Before the timing every result
+is compared with that of the second calculation, and after each measurement the last one.
+Outputs are not cleared between calls.
 
   --rounds N   201 if not given
 ",

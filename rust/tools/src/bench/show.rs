@@ -25,7 +25,7 @@ fn ratio(proved: f64, other: f64) -> f64 {
 }
 
 impl<'a> Table<'a> {
-    /// A call on every case, but for tables that it does not take.
+    /// A call on every case that it takes.
     pub fn new(call: &Call, cases: &'a [Case]) -> Result<Table<'a>, Failure> {
         let line = |case: &'a Case| {
             Ok(Line {
@@ -34,8 +34,7 @@ impl<'a> Table<'a> {
                 timed: (call.sides)(case)?,
             })
         };
-        let timed = cases.iter();
-        let timed = timed.filter(|case| call.takes_table || !case.own_table());
+        let timed = cases.iter().filter(|case| call.takes(case));
         Ok(Table {
             call: call.name,
             lines: timed.map(line).collect::<Result<_, _>>()?,

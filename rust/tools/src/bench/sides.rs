@@ -16,38 +16,58 @@ type Sides<'a> = Result<Vec<Timed<'a>>, Failure>;
 /// One side: its name, its work and what it must answer.
 type Side<'a> = (&'static str, Box<dyn Work + 'a>, Rc<[Answer]>);
 
-/// A call, whether it takes a table, and how its sides are made.
+/// A call, whether it takes a table, whether it is the small bank's, and how its sides are made.
 pub struct Call {
     pub name: &'static str,
     pub takes_table: bool,
+    pub small_bank: bool,
     pub sides: fn(&Case) -> Sides,
 }
 
+impl Call {
+    /// Whether the call is timed on a case.
+    pub fn takes(&self, case: &Case) -> bool {
+        let table = self.takes_table || !case.own_table();
+        table && self.small_bank == case.small_bank
+    }
+}
+
 /// The calls, in the order of the tables.
-pub const CALLS: [Call; 5] = [
+pub const CALLS: [Call; 6] = [
     Call {
         name: "check",
         takes_table: false,
+        small_bank: false,
         sides: check,
     },
     Call {
         name: "charge",
         takes_table: true,
+        small_bank: false,
         sides: charge,
     },
     Call {
         name: "interest ladder",
         takes_table: true,
+        small_bank: false,
         sides: interest_ladder,
     },
     Call {
         name: "commodity ladder",
         takes_table: false,
+        small_bank: false,
         sides: commodity_ladder,
+    },
+    Call {
+        name: "small bank",
+        takes_table: false,
+        small_bank: true,
+        sides: small_bank,
     },
     Call {
         name: "join",
         takes_table: false,
+        small_bank: false,
         sides: join,
     },
 ];
@@ -113,6 +133,17 @@ fn commodity_ladder(case: &Case) -> Sides<'_> {
     compared(vec![
         ("proved", proved, expected.clone()),
         ("Rust", of_group(books, fast::commodity_ladder), expected),
+        words(case),
+    ])
+}
+
+fn small_bank(case: &Case) -> Sides<'_> {
+    let books = &case.books;
+    let expected = expected(case, |book, _, out| Second.small_bank(book, out));
+    let proved = of_book(books, raw::small_bank);
+    compared(vec![
+        ("proved", proved, expected.clone()),
+        ("Rust", of_book(books, fast::small_bank), expected),
         words(case),
     ])
 }

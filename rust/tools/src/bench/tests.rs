@@ -1,10 +1,10 @@
 //! What could be wrong with a benchmark, done on purpose. No test depends on the time that
 //! anything takes.
 
-use super::cases::cases;
+use super::cases::{cases, Case};
 use super::fake::{answer, expected, World};
 use super::show::{Line, Table};
-use super::sides::CALLS;
+use super::sides::{Call, CALLS};
 use super::timed::{Clock, Timed};
 use super::work::of_book;
 use std::cell::Cell;
@@ -98,6 +98,12 @@ fn ratios_are_proved_by_other() {
     assert_eq!(lines[1], ["any", "4,000", "300.0", "100.0", "3.00"]);
 }
 
+/// The first case that a call is timed on.
+fn first<'a>(call: &Call, cases: &'a [Case]) -> &'a Case {
+    let mut taken = cases.iter().filter(|case| call.takes(case));
+    taken.next().expect("each call has a case")
+}
+
 /// Catches another call, or another's call, under a name: the compiler names what is run.
 #[test]
 fn each_name_times_its_own_call() {
@@ -106,23 +112,24 @@ fn each_name_times_its_own_call() {
         "charge",
         "interest_ladder",
         "commodity_ladder",
+        "small_bank",
         "join",
     ];
     let cases = cases();
     for (call, function) in CALLS.iter().zip(functions) {
         assert_eq!(call.name.replace(' ', "_"), function);
-        for case in &cases[5..6] {
-            for side in (call.sides)(case).unwrap() {
-                let path = match side.name {
-                    "proved" => format!("market_risk::raw::{function}"),
-                    "Rust" if function == "join" => "fast::join::join".to_string(),
-                    "Rust" => format!("fast::{function}"),
-                    "C" => format!("fast::expert::{function}"),
-                    "words" => "market_risk::bench::floors::sum_words".to_string(),
-                    _ => "market_risk::bench::floors::copy".to_string(),
-                };
-                assert_eq!(side.path(), path);
-            }
+        for side in (call.sides)(first(call, &cases)).unwrap() {
+            let path = match side.name {
+                "proved" => format!("market_risk::raw::{function}"),
+                "Rust" if ["join", "small_bank"].contains(&function) => {
+                    format!("fast::{function}::{function}")
+                }
+                "Rust" => format!("fast::{function}"),
+                "C" => format!("fast::expert::{function}"),
+                "words" => "market_risk::bench::floors::sum_words".to_string(),
+                _ => "market_risk::bench::floors::copy".to_string(),
+            };
+            assert_eq!(side.path(), path);
         }
     }
 }
@@ -132,7 +139,7 @@ fn each_name_times_its_own_call() {
 fn the_proved_library_comes_first() {
     let cases = cases();
     for call in &CALLS {
-        let sides = (call.sides)(&cases[0]).unwrap();
+        let sides = (call.sides)(first(call, &cases)).unwrap();
         let names: Vec<&str> = sides.iter().map(|side| side.name).collect();
         let floor = if call.name == "join" { "copy" } else { "words" };
         let named = names.iter().copied().filter(|name| *name != "C");
@@ -151,5 +158,21 @@ fn calls_that_take_a_table_have_a_line_under_another() {
         let lines = table.lines.iter().filter(own).count();
         let takes = ["charge", "interest ladder"].contains(&call.name);
         assert_eq!(lines, usize::from(takes), "{}", call.name);
+    }
+}
+
+/// Catches lines of small banks that are missing, or that stand in another call's table; and the
+/// call timed on books that it refuses at once.
+#[test]
+fn the_small_bank_has_lines_of_its_own() {
+    let cases = cases();
+    for call in &CALLS {
+        let table = Table::new(call, &cases).unwrap();
+        let books: Vec<&str> = table.lines.iter().map(|line| line.book).collect();
+        let own = books.iter().filter(|book| **book == "fx and commodity");
+        let small_bank = call.name == "small bank";
+        assert_eq!(own.count(), if small_bank { 3 } else { 0 }, "{books:?}");
+        assert_eq!(books.contains(&"all classes"), !small_bank, "{books:?}");
+        assert!(books.contains(&"refused, last row"), "{books:?}");
     }
 }

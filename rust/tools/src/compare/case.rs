@@ -3,6 +3,7 @@
 use super::e4::add_e4;
 use books::damage::{damage, damage_note};
 use books::generate::{book, interest_book, interest_rows, ladder_book, Shape};
+use books::small::{slip_in, small_book};
 use books::tables::random::{accepted, broken, nudged, of_wrong_length, WAYS};
 use books::{Random, ROW_BYTES};
 
@@ -113,6 +114,24 @@ fn books_of_one_group(random: &mut Random) -> [Vec<u8>; 2] {
     })
 }
 
+/// Two books of foreign exchange and commodities alone, every third damaged, every sixth with a
+/// row of interest or equity in it.
+fn books_of_small_banks(random: &mut Random) -> [Vec<u8>; 2] {
+    let mut shape = Shape::new(random, 0);
+    sizes(random).map(|rows| {
+        shape.rows = rows;
+        let mut book = small_book(random, &shape);
+        if random.once_in(6) {
+            slip_in(random, &mut book, &shape);
+        }
+        let mut bytes = book.encode().expect("at most 4,002 rows");
+        if random.once_in(3) {
+            damage(random, &mut bytes);
+        }
+        bytes
+    })
+}
+
 /// A table: mostly an accepted one, often document 01's; else with one condition broken by one,
 /// with one byte changed, or of a wrong length.
 fn table(random: &mut Random) -> Vec<u8> {
@@ -134,10 +153,11 @@ impl Case {
         // The table has a stream of its own.
         let table = table(&mut Random::of_case(!seed, number));
         let mut random = Random::of_case(seed, number);
-        let [a, b] = match random.below(16) {
+        let [a, b] = match random.below(18) {
             0 | 1 => books_of_currencies(&mut random, &table),
             2 | 3 => books_of_notes(&mut random),
             4 | 5 => books_of_one_group(&mut random),
+            6 | 7 => books_of_small_banks(&mut random),
             _ => any_books(&mut random),
         };
         Case {

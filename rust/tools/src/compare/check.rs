@@ -1,4 +1,4 @@
-//! All six calls on one case, entry by entry and byte by byte.
+//! All seven calls on one case, entry by entry and byte by byte.
 
 use super::case::Case;
 use crate::calls::Calls;
@@ -97,7 +97,13 @@ fn of_book(calculations: [&dyn Calls; 2], case: &Case) -> Option<String> {
             calls.commodity_ladder(book, group, out);
         })
     };
-    check().or_else(charge).or_else(interest).or_else(commodity)
+    let small_bank = || {
+        both("small bank", calculations, |calls, out| {
+            calls.small_bank(book, out);
+        })
+    };
+    let ladders = || interest().or_else(commodity);
+    check().or_else(charge).or_else(ladders).or_else(small_bank)
 }
 
 /// The first difference of a case, in words.

@@ -1,17 +1,20 @@
-//! Demand 3, the charges of each currency and the ladders on one case, by the library's own
-//! figures: lists and ladders that add up, order, mirror and joining, all books of the case
-//! under its one table.
+//! Demand 3, the charges of each currency, the ladders and the small bank on one case, by the
+//! library's own figures: lists and ladders that add up, order, mirror and joining, all books of
+//! the case under its one table.
 
 use super::case::Case;
 use super::check::unequal;
-use super::ladders;
 use super::premises::{at_most_two, zones, Zones};
+use super::{ladders, small_laws};
 use crate::calls::Calls;
 use books::{Book, Random, Row};
 use second::GROUPS;
 
 /// The entries of a report.
 type Report = [u64; 75];
+
+/// The entries of a call on a joined book and on its two parts.
+type Three<'a> = [&'a [u64]; 3];
 
 /// The names of the charges and the total, in the report's order, from entry 3 on.
 const FIGURES: [&str; 7] = [
@@ -82,13 +85,14 @@ fn mirrored(book: &Book) -> Book {
     }
 }
 
-/// Reordered and mirrored books have the same report.
-fn order_and_mirror(calls: &dyn Calls, case: &Case) -> Option<String> {
+/// The first book of a case mirrored, reordered and mirrored, and reordered, each with the entries
+/// of a call in which it differs from the book as it is.
+pub fn changed<const N: usize>(
+    case: &Case,
+    expected: &[u64; N],
+    call: impl Fn(&[u8]) -> [u64; N],
+) -> Option<String> {
     let book = Book::decode(&case.a)?;
-    let expected = report(calls, case, &case.a);
-    if expected[0] != 0 {
-        return None;
-    }
     let other = reordered(&book, case.order);
     let variants = [
         ("mirrored", mirrored(&book)),
@@ -96,20 +100,29 @@ fn order_and_mirror(calls: &dyn Calls, case: &Case) -> Option<String> {
         ("reordered", other),
     ];
     variants.iter().find_map(|(name, variant)| {
-        let entries = unequal(&report(calls, case, &variant.encode()?), &expected)?;
+        let entries = unequal(&call(&variant.encode()?), expected)?;
         Some(format!("{name} and as it is: {entries}"))
     })
 }
 
+/// Reordered and mirrored books have the same report.
+fn order_and_mirror(calls: &dyn Calls, case: &Case) -> Option<String> {
+    let expected = report(calls, case, &case.a);
+    match expected[0] {
+        0 => changed(case, &expected, |book| report(calls, case, book)),
+        _ => None,
+    }
+}
+
 /// An entry of a joined book that is more than those of the two together.
-fn dearer(name: &str, entry: usize, reports: [&Report; 3]) -> Option<String> {
-    let [whole, a, b] = reports.map(|report| report[entry]);
+pub fn dearer(name: &str, entry: usize, results: Three) -> Option<String> {
+    let [whole, a, b] = results.map(|result| result[entry]);
     (whole > a + b).then(|| format!("joined, {name} is {whole}, more than {a} and {b} together"))
 }
 
 /// A currency that uses at most two zones in the joined book, whatever the others use, and
 /// costs more there than in the two.
-fn dearer_currency(zones: &Zones, reports: [&Report; 3]) -> Option<String> {
+fn dearer_currency(zones: &Zones, reports: Three) -> Option<String> {
     let mut currencies = (0..GROUPS).filter(|group| at_most_two(&zones[*group]));
     currencies.find_map(|group| {
         LISTS.iter().find_map(|list| {
@@ -121,7 +134,7 @@ fn dearer_currency(zones: &Zones, reports: [&Report; 3]) -> Option<String> {
 
 /// A charge or total that is more than those of the two, with at most two zones used in each
 /// currency.
-fn dearer_figure(zones: &Zones, reports: [&Report; 3]) -> Option<String> {
+fn dearer_figure(zones: &Zones, reports: Three) -> Option<String> {
     let mut figures = (3..).zip(FIGURES);
     match zones.iter().all(at_most_two) {
         true => figures.find_map(|(entry, name)| dearer(name, entry, reports)),
@@ -129,14 +142,17 @@ fn dearer_figure(zones: &Zones, reports: [&Report; 3]) -> Option<String> {
     }
 }
 
-/// A joined book has the rows of its parts and, under the zone premise, costs at most these.
-fn joining(calls: &dyn Calls, case: &Case) -> Option<String> {
+/// The joined book of a case, if join accepts.
+pub fn joined(calls: &dyn Calls, case: &Case) -> Option<Vec<u8>> {
     let mut joined = vec![0; (case.a.len() + case.b.len()).saturating_sub(8)];
     let mut result = [0; 4];
     calls.join(&case.a, &case.b, &mut joined, &mut result);
-    if result[0] != 0 {
-        return None;
-    }
+    (result[0] == 0).then_some(joined)
+}
+
+/// A joined book has the rows of its parts and, under the zone premise, costs at most these.
+fn joining(calls: &dyn Calls, case: &Case) -> Option<String> {
+    let joined = joined(calls, case)?;
     let (a, b) = (report(calls, case, &case.a), report(calls, case, &case.b));
     // Under a refused table nothing is charged.
     if [18, 19].contains(&a[0]) {
@@ -150,7 +166,7 @@ fn joining(calls: &dyn Calls, case: &Case) -> Option<String> {
         let [whole, a, b] = [whole, a, b].map(|report| report[10]);
         return Some(format!("joined, {whole} rows are taken, not {a} and {b}"));
     }
-    let (zones, reports) = (zones(&joined), [&whole, &a, &b]);
+    let (zones, reports): (_, Three) = (zones(&joined), [&whole, &a, &b]);
     dearer_currency(&zones, reports).or_else(|| dearer_figure(&zones, reports))
 }
 
@@ -160,4 +176,5 @@ pub fn broken(calls: &dyn Calls, case: &Case) -> Option<String> {
         .or_else(|| ladders::broken(calls, case))
         .or_else(|| order_and_mirror(calls, case))
         .or_else(|| joining(calls, case))
+        .or_else(|| small_laws::broken(calls, case))
 }

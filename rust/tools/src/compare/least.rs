@@ -2,6 +2,7 @@
 
 use super::floating::Floating;
 use super::premises::Premises;
+use super::small_banks::SmallBanks;
 use super::tables::Tables;
 use super::tally::Tally;
 
@@ -41,6 +42,18 @@ const LEAST: Tally = Tally {
         ways: [200, 75, 60, 65, 65, 65, 65, 65, 65, 65],
         before_book: [115, 285],
         after_group: 125,
+    },
+    small_banks: SmallBanks {
+        charged: 330,
+        unlike_ladder: 640,
+        refused: [
+            0, 45, 115, 500, 80, 155, 54, 87, 75, 38, 0, 0, 0, 0, 0, 0, 0, 0, 0, 0, 3_900,
+        ],
+        ways: [2_600, 650, 860],
+        before_row: [860, 200],
+        after_contents: [90, 330],
+        joins: 78,
+        cheaper: 20,
     },
 };
 
@@ -137,6 +150,7 @@ mod tests {
             assert_eq!(one_short(|tally| &mut tally.floating.ways[at]).len(), 1);
         }
         every_table_has_a_minimum();
+        every_small_bank_has_a_minimum();
         for number in (1..=9).chain([15]) {
             let lacking = one_short(|tally| &mut tally.refused[number]);
             assert!(lacking[0].starts_with(&format!("books refused {number}: ")));
@@ -179,16 +193,49 @@ mod tests {
         }
     }
 
+    /// The same of the small banks.
+    fn every_small_bank_has_a_minimum() {
+        let alone = |of: &dyn Fn(&mut SmallBanks) -> &mut u64, name: &str| {
+            let lacking = one_short(|tally| of(&mut tally.small_banks));
+            assert_eq!(lacking.len(), 1, "{name}");
+            let name = format!("small banks {name}: ");
+            assert!(lacking[0].starts_with(&name), "{lacking:?}");
+        };
+        alone(&|banks| &mut banks.charged, "charged");
+        alone(&|banks| &mut banks.unlike_ladder, "unlike the ladder");
+        alone(&|banks| &mut banks.joins, "joined");
+        alone(&|banks| &mut banks.cheaper, "cheaper when joined");
+        for (at, way) in ["interest alone", "equity alone", "both"]
+            .iter()
+            .enumerate()
+        {
+            let name = format!("refused 20 for {way}");
+            alone(&|banks| &mut banks.ways[at], &name);
+        }
+        for (at, row) in ["such a", "another"].iter().enumerate() {
+            let name = format!("refused 20 before {row} bad row");
+            alone(&|banks| &mut banks.before_row[at], &name);
+        }
+        for at in 0..2 {
+            let name = format!("refused {} before 20", at + 2);
+            alone(&|banks| &mut banks.after_contents[at], &name);
+        }
+        for number in (1..=9).chain([20]) {
+            let name = format!("refused {number}");
+            alone(&|banks| &mut banks.refused[number], &name);
+        }
+    }
+
     /// Catches minimums that do not follow the count of the run.
     #[test]
     fn minimums_follow_the_count() {
         let nothing = Tally::default();
-        assert_eq!(nothing.lacking(20_000).len(), 12 + 9 + 18 + 10 + 12);
+        assert_eq!(nothing.lacking(20_000).len(), 12 + 9 + 18 + 10 + 12 + 21);
         assert!(LEAST.lacking(20_100).len() > 10);
         let half = nothing.lacking(10_000);
         assert!(half.contains(&"joins refused 11: 0 where at least 10 are wanted".to_string()));
         // Few cases may miss the rarest, and very few may miss anything.
-        assert_eq!(nothing.lacking(9_999).len(), 12 + 9 + 18 + 10 + 11);
+        assert_eq!(nothing.lacking(9_999).len(), 12 + 9 + 18 + 10 + 11 + 20);
         assert_eq!(nothing.lacking(51), [""; 0]);
     }
 }

@@ -15,11 +15,15 @@ mod mended;
 #[cfg(test)]
 mod misread;
 #[cfg(test)]
+mod misread_small;
+#[cfg(test)]
 mod misread_tables;
 mod premises;
 mod run;
 mod shown;
 mod shrink;
+mod small_banks;
+mod small_laws;
 #[cfg(test)]
 mod stand_ins;
 mod table_cuts;
@@ -29,6 +33,8 @@ mod tally;
 mod tests;
 #[cfg(test)]
 mod wrong_ladders;
+#[cfg(test)]
+mod wrong_small;
 #[cfg(test)]
 mod wrong_tables;
 
@@ -42,7 +48,7 @@ pub const COMMAND: Command = Command {
     help: "market-risk compare [--seed S] [--count N] [--first K]
 
 Makes N pairs of random and damaged books from seed S and holds the proved library to
-the second calculation: all six calls, every entry of every result and every byte of
+the second calculation: all seven calls, every entry of every result and every byte of
 every output. Each pair has one table: document 01's, another that is accepted, or one that
 is refused. Demand 3 is sampled too: a reordered, mirrored, or reordered and mirrored book
 has the same report; a joined book takes as many rows as its two parts and, with at most
@@ -50,7 +56,9 @@ two zones used in each currency, costs at most these, in each charge and the tot
 So are the charges of each currency: each list adds up to the charge that it splits, and
 a currency that itself uses at most two zones in a joined book costs at most what it cost
 in the two, whatever the other currencies use. And every ladder that is accepted adds up,
-in the lines that `ladder` shows, which hold the library's figures to the rows.
+in the lines that `ladder` shows, which hold the library's figures to the rows. Books of
+foreign exchange and commodities alone cost the same reordered and mirrored, and joined at
+most what they cost apart, in each figure of the small bank and whatever they hold.
 
 On a difference it prints the smallest books that it can find, in hex and as CSV, with the
 table next to document 01's, and stops with exit status 1. It also fails when the pairs
@@ -58,9 +66,11 @@ have shown too little: every refusal, accepted books with rows, books refused af
 first row, interest ladders with all three zones used, commodity ladders with amounts
 carried, joins made, joins under the zone premise, currencies of both books under their own
 premise, these beside a currency with three zones, currencies that cost more joined,
-floating-rate notes, accepted, joined, and refused in each way and place, and tables,
-document 01's, others with interest rows, of a wrong length, with each condition broken
-alone, and refused before bad books and after groups, must come up in proportion to N.
+floating-rate notes, accepted, joined, and refused in each way and place, tables, document
+01's, others with interest rows, of a wrong length, with each condition broken alone, and
+refused before bad books and after groups, and small banks, charged, charged otherwise than
+by the ladder, joined, joined for less, and refused with each number, with 20 in each way,
+before bad rows and after 2 and 3, must come up in proportion to N.
 
   --seed S    the seed, 1 if not given
   --count N   how many pairs, 20000 if not given

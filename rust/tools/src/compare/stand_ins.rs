@@ -7,22 +7,24 @@ use crate::calls::{Calls, Proved, Second};
 use crate::cli::{Args, Failure};
 use books::Book;
 
-/// The six calls.
+/// The seven calls.
 #[derive(Clone, Copy, Debug, PartialEq)]
 enum Call {
     Check,
     Charge,
     InterestLadder,
     CommodityLadder,
+    SmallBank,
     Join,
     Table,
 }
 
-const CALLS: [Call; 6] = [
+const CALLS: [Call; 7] = [
     Call::Check,
     Call::Charge,
     Call::InterestLadder,
     Call::CommodityLadder,
+    Call::SmallBank,
     Call::Join,
     Call::Table,
 ];
@@ -61,6 +63,9 @@ impl Calls for StandIn<'_> {
     fn commodity_ladder(&self, book: &[u8], group: usize, out: &mut [u64; 7]) {
         let real = |out: &mut [u64; 7]| Second.commodity_ladder(book, group, out);
         self.answer(Call::CommodityLadder, out, real);
+    }
+    fn small_bank(&self, book: &[u8], out: &mut [u64; 6]) {
+        self.answer(Call::SmallBank, out, |out| Second.small_bank(book, out));
     }
     fn join(&self, a: &[u8], b: &[u8], out: &mut [u8], result: &mut [u64; 4]) {
         match (self.without.contains(&Call::Join), self.zeros) {
@@ -154,6 +159,8 @@ fn a_run_that_has_seen_too_little_fails() {
     assert!(message.contains("\nbooks accepted with floating rates: 0 where"));
     assert!(message.contains("\nbooks refused 15: 0 where at least 355 are wanted\n"));
     assert!(message.contains("\nother tables accepted: 0 where"));
+    assert!(message.contains("\nsmall banks charged: 0 where"));
+    assert!(message.contains("\nsmall banks refused 20: 0 where at least 3900 are wanted\n"));
     assert!(message.contains("\ntables refused 18: 0 where"));
     assert!(message.contains("\ntables refused for 1-3 above 100 alone: 0 where"));
     assert!(!message.contains("books accepted: "), "{message}");
@@ -209,6 +216,14 @@ fn under_one_table(seed: u64, number: u64) -> Case {
     }
 }
 
+/// A case of a seed, but none whose first book is a small bank's, as far as its contents tell.
+fn without_small_banks(seed: u64, number: u64) -> Case {
+    let mut cases = (0..).map(|turn| Case::new(seed + turn, number));
+    let refused = |case: &Case| second::small_bank(&case.a).refusal.number;
+    let wanted = cases.find(|case| [1, 2, 3, 20].contains(&refused(case)));
+    wanted.expect("most cases have interest or equity rows")
+}
+
 /// What a run of 4,000 cases of a kind lacks.
 fn lacking(cases: fn(u64, u64) -> Case) -> Vec<String> {
     let none = StandIn {
@@ -254,6 +269,17 @@ fn a_run_without_notes_fails() {
     );
     assert!(lacking.iter().all(|line| line.contains(": 0 where")));
     assert_eq!(lacking.len(), 10, "{lacking:?}");
+}
+
+/// Catches a run in which every first book has interest or equity rows: no figure of a small bank
+/// was compared, and no refusal of its rows.
+#[test]
+fn a_run_without_small_banks_fails() {
+    let lacking = lacking(without_small_banks);
+    let about_banks = |line: &String| line.starts_with("small banks ");
+    assert!(lacking.iter().all(about_banks), "{lacking:?}");
+    assert!(lacking.iter().all(|line| line.contains(": 0 where")));
+    assert_eq!(lacking.len(), 8, "{lacking:?}");
 }
 
 /// Catches a run that has seen no table but document 01's, and so nothing of what is loaded.

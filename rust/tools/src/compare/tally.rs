@@ -3,6 +3,7 @@
 use super::case::Case;
 use super::floating::Floating;
 use super::premises::Premises;
+use super::small_banks::SmallBanks;
 use super::tables::Tables;
 use std::fmt;
 
@@ -28,6 +29,7 @@ pub struct Tally {
     pub premises: Premises,
     pub floating: Floating,
     pub tables: Tables,
+    pub small_banks: SmallBanks,
 }
 
 impl Tally {
@@ -41,6 +43,7 @@ impl Tally {
         self.with_rows += u64::from(refusal.accepted() && case.a.len() > 8);
         self.after_first += u64::from(refusal.row > 0);
         self.floating.count(&case.a, &refusal);
+        self.small_banks.count(&case.a, &refusal);
         self.ladder_refused += u64::from(case.group > 31);
         self.tables.count(case);
         let charged = second::read_table(&case.table).is_ok();
@@ -55,6 +58,7 @@ impl Tally {
         out.truncate(joined.length as usize);
         if joined.refusal.accepted() {
             self.floating.count_join([&case.a, &case.b]);
+            self.small_banks.count_join([&case.a, &case.b, &out]);
             if charged {
                 self.premises.count([&case.a, &case.b, &out], &case.table);
             }
@@ -87,6 +91,7 @@ impl Tally {
         counts.extend(self.premises.named());
         counts.extend(self.floating.named());
         counts.extend(self.tables.named());
+        counts.extend(self.small_banks.named());
         counts.extend(numbered("books refused", &self.refused));
         counts.extend(numbered("joins refused", &self.joins));
         counts
@@ -118,6 +123,7 @@ impl fmt::Display for Tally {
         writeln!(out, "joins made {}, {}", self.joins[0], self.premises)?;
         writeln!(out, "{}", self.floating)?;
         writeln!(out, "{}", self.tables)?;
+        writeln!(out, "{}", self.small_banks)?;
         writeln!(
             out,
             "joins refused {not_joined}, for the second book {}",

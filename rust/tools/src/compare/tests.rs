@@ -89,7 +89,10 @@ fn wrong_readings_of_floating_rate_notes_are_shown_by_one_note() {
             Fault::FinalAtFixingRefused,
             "the joined book is refused with 15\n".into(),
         ),
-        (Fault::CouponLimit, format!("{check} 15 and 8\n")),
+        (
+            Fault::CouponLimit,
+            "the joined book is refused with 15\n".into(),
+        ),
         (Fault::DaysLimit, format!("{check} 8 and 15\n")),
         (Fault::AmountsBeforeFixing, format!("{check} 8 and 15\n")),
         (Fault::FixingBeforeGroup, format!("{check} 15 and 4\n")),

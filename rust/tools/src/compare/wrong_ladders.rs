@@ -138,6 +138,9 @@ impl Calls for Agreeing {
             self.wrong.commodity(out);
         }
     }
+    fn small_bank(&self, book: &[u8], out: &mut [u64; 6]) {
+        Second.small_bank(book, out);
+    }
     fn join(&self, a: &[u8], b: &[u8], out: &mut [u8], result: &mut [u64; 4]) {
         Second.join(a, b, out, result);
     }

@@ -1,7 +1,8 @@
 //! The ladder of one commodity as a table.
 
 use super::bands::{band, span, COMMODITY};
-use super::{adding_up, hold, same};
+use super::{adding_up, same};
+use crate::lines::hold;
 use crate::text::{mils, table, whole};
 use books::Row;
 use market_risk::CommodityLadder;
@@ -86,7 +87,7 @@ fn band_table(bands: &[Band; 7]) -> String {
 pub fn show(rows: &[Row], group: u64, ladder: &CommodityLadder) -> Result<String, String> {
     let bands = bands(rows, group);
     let lines = adding_up::commodity(rows, group, ladder);
-    hold(cross_check(&bands, ladder), &lines)?;
+    hold(cross_check(&bands, ladder).err(), &lines)?;
     let line = |name: &str, sum: u64, rate: &str, mils_each: i128| {
         let charge = mils(i128::from(sum) * mils_each);
         vec![name.into(), whole(sum), rate.into(), charge]

@@ -1,8 +1,9 @@
 //! The interest ladder of one currency as a table.
 
+use super::adding_up;
 use super::bands::{span, LOW_COUPON, ORDINARY, ZONES};
 use super::steps::{amounts, cross_check, steps, Sides, Step};
-use super::{adding_up, hold};
+use crate::lines::hold;
 use crate::text::{mils, places, table, weighted, whole};
 use books::Row;
 use market_risk::{InterestLadder, Table};
@@ -99,7 +100,7 @@ pub fn show(
     }
     let (steps, rest) = steps(&bands, &table.per_cents());
     let lines = adding_up::interest(rows, group, table, ladder);
-    hold(cross_check(&bands, &steps, rest, ladder), &lines)?;
+    hold(cross_check(&bands, &steps, rest, ladder).err(), &lines)?;
     Ok(format!(
         "currency {group}: amounts in thousands, weighted positions and charges in currency units\n\n\
          {}\n{}\n{}",

@@ -10,7 +10,6 @@ use crate::cli::{no, usage, Args, Command, Failure, Outcome};
 use crate::files::{input, print, read_book};
 use crate::report::explain;
 use crate::table::Loaded;
-use adding_up::{broken, Line};
 use books::Book;
 use market_risk::{Refusal, Table};
 
@@ -60,15 +59,6 @@ fn same(name: &str, here: i128, library: u64) -> Result<(), String> {
     }
 }
 
-/// Fails with what the cross-check tells and with every line that does not hold.
-fn hold(cross_check: Result<(), String>, lines: &[Line]) -> Result<(), String> {
-    let told: Vec<String> = cross_check.err().into_iter().chain(broken(lines)).collect();
-    match &told[..] {
-        [] => Ok(()),
-        told => Err(told.join("\n")),
-    }
-}
-
 /// The ladder of a currency or of a commodity.
 enum Wanted {
     Currency(u64),
@@ -111,30 +101,4 @@ fn run(args: &Args) -> Outcome {
     let text = ladder(&read_book(path)?, wanted, &loaded.table);
     let text = text.map_err(|why| no(format!("{}: {why}", input(path))))?;
     print(&(loaded.note() + &text))
-}
-
-#[cfg(test)]
-mod tests {
-    use super::*;
-    use market_risk::InterestLadder;
-
-    /// Catches lines that are not looked at, or are where the cross-check fails alone.
-    #[test]
-    fn the_cross_check_and_every_line_must_hold() {
-        let lines = |charge: u64| {
-            let ladder = InterestLadder {
-                charge,
-                ..InterestLadder::default()
-            };
-            adding_up::interest(&[], 0, &Table::amendment(), &ladder)
-        };
-        let (right, wrong) = (lines(0), lines(1));
-        let line = "does not add up: 2 x charge 0.002 <= 0.0 gross + 0.0 residual";
-        let differs = || Err("gross: differs".to_string());
-        assert_eq!(hold(Ok(()), &right), Ok(()));
-        assert_eq!(hold(Ok(()), &wrong), Err(line.into()));
-        assert_eq!(hold(differs(), &right), differs());
-        let both = format!("gross: differs\n{line}");
-        assert_eq!(hold(differs(), &wrong), Err(both));
-    }
 }

@@ -48,10 +48,11 @@ fn fields(class: usize, row: &Row) -> String {
 }
 
 /// The four counts of a file of at least eight bytes.
-fn counts(bytes: &[u8]) -> String {
-    let count = |pair: &[u8]| whole(u16::from_le_bytes([pair[0], pair[1]]));
-    let counts: Vec<String> = bytes[..8].chunks_exact(2).map(count).collect();
-    counts.join(", ")
+fn counts(bytes: &[u8]) -> [String; 4] {
+    std::array::from_fn(|class| {
+        let count = [bytes[2 * class], bytes[2 * class + 1]];
+        whole(u16::from_le_bytes(count))
+    })
 }
 
 /// A refusal explained, with its row's fields.
@@ -62,8 +63,12 @@ pub fn explain(bytes: &[u8], refusal: &Refusal) -> String {
         (1, _) => format!("the file has {length} bytes"),
         (2 | 3, _) => format!(
             "the file has {length} bytes and counts {} rows",
-            counts(bytes)
+            counts(bytes).join(", ")
         ),
+        (20, _) => {
+            let [interest, equity, ..] = counts(bytes);
+            format!("the file counts {interest} interest and {equity} equity rows")
+        }
         (number @ (4..=9 | 15), Some((class, row))) => {
             format!("{}; {}", fields(class, &row), allowed(number, class))
         }
@@ -142,6 +147,21 @@ mod tests {
         assert!(explained(&[1, 2]).ends_with("the file has 2 bytes"));
         let text = explained(&[1, 0, 2, 0, 0, 0, 0, 0]);
         assert!(text.ends_with("the file has 8 bytes and counts 1, 2, 0, 0 rows"));
+    }
+
+    /// Catches a small bank's book that is told without what it should not have.
+    #[test]
+    fn twenty_is_explained_with_its_two_counts() {
+        let mut book = Book::default();
+        let row = Row::default().with_sides(1, 0);
+        book.classes = [vec![row; 1_234], vec![row; 5], vec![row; 6], vec![row; 7]];
+        let bytes = book.encode().unwrap();
+        let refusal = market_risk::small_bank(&bytes).unwrap_err();
+        assert_eq!(
+            explain(&bytes, &refusal),
+            "refused 20: interest or equity rows in a small bank's book\n\
+             the file counts 1,234 interest and 5 equity rows"
+        );
     }
 
     #[test]

@@ -30,6 +30,7 @@ fn ladder(by: &dyn Calls, book: &[u8], table: &[u8], group: u16) -> (&'static st
 fn answer(by: &dyn Calls, case: &Case) -> (&'static str, Vec<u64>) {
     let book = &case.book;
     let (mut check, mut commodity, mut result) = ([0; 3], [0; 7], [0; 4]);
+    let mut small_bank = [0; 6];
     let mut table_01 = [0; 36];
     by.table(&mut table_01);
     match &case.call {
@@ -49,6 +50,10 @@ fn answer(by: &dyn Calls, case: &Case) -> (&'static str, Vec<u64>) {
             let mut out = vec![FILL; *room as usize];
             by.join(book, other, &mut out, &mut result);
             ("join", [&result[..], &[checksum(&out)]].concat())
+        }
+        Call::SmallBank => {
+            by.small_bank(book, &mut small_bank);
+            ("small-bank", small_bank.to_vec())
         }
         Call::Table => ("table", table_01.map(u64::from).to_vec()),
     }
@@ -75,7 +80,7 @@ fn lines_by(by: &dyn Calls, cases: &[Case]) -> String {
 
 #[cfg(test)]
 mod tests {
-    use super::super::build::{call, charge_by, join, ladder_by, row};
+    use super::super::build::{call, charge_by, join, ladder_by, row, small_bank};
     use super::*;
     use crate::calls::Proved;
 
@@ -115,6 +120,8 @@ mod tests {
             charge_by(&[0; 35], &book),
             ladder_by(&[9; 36], 3, &book),
             call(Call::Table, &[]),
+            small_bank(&book),
+            small_bank(&super::super::build::only(3, &[row(3, 0, 90, 0, -2)])),
         ];
         let (sum, lists) = (checksum(&[0; 8]), " 0".repeat(64));
         let expected = format!(
@@ -127,7 +134,9 @@ mod tests {
              charge 18 0 0 0 0 0 0 0 0 0 0{lists}\n\
              interest-ladder 19 0 0 0 0 0 0 0 0 0 0 0 0\n\
              table 0 0 20 0 40 0 70 0 125 0 175 0 225 0 19 1 69 1 119 1 194 1 13 2 88 2 32 3 226 4 \
-             10 40 30 30 40 100\n"
+             10 40 30 30 40 100\n\
+             small-bank 20 0 0 0 0 0\n\
+             small-bank 0 0 0 0 360000 360000\n"
         );
         assert_eq!(lines(&cases), expected);
     }

@@ -14,6 +14,7 @@ pub enum Call {
     ChargeBy { table: Vec<u8> },
     InterestLadderBy { table: Vec<u8>, group: u16 },
     Table,
+    SmallBank,
 }
 
 /// One stored call.
@@ -29,6 +30,11 @@ pub fn call(call: Call, book: &[u8]) -> Case {
         call,
         book: book.to_vec(),
     }
+}
+
+/// The small bank's charge of a book.
+pub fn small_bank(book: &[u8]) -> Case {
+    call(Call::SmallBank, book)
 }
 
 /// The charge of a book by a table.

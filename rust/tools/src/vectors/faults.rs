@@ -4,7 +4,7 @@ use super::build::{all_calls, book, call, clean, only, row, Call, Case};
 use books::Row;
 
 /// Rows that a class refuses, from 4 to 9; 15 has a file of its own.
-fn bad_rows(class: usize) -> Vec<Row> {
+pub fn bad_rows(class: usize) -> Vec<Row> {
     let good = clean(class);
     let dated = class == 0 || class == 3;
     let days = if dated { 36_001 } else { 1 };
@@ -71,7 +71,7 @@ fn several() -> Vec<Vec<u8>> {
 }
 
 /// Files whose contents are refused, and those just beside them.
-fn contents() -> Vec<Vec<u8>> {
+pub fn contents() -> Vec<Vec<u8>> {
     let mut books: Vec<Vec<u8>> = (0..8).map(|length| vec![255; length]).collect();
     let counts = [
         [4001, 0, 0, 0],

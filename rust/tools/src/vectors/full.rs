@@ -4,7 +4,7 @@ use super::build::{all_calls, book, call, only, row, Call, Case};
 use books::Row;
 
 /// So many rows of a class: runs of a hundred, each of another group, band and side.
-fn runs(class: usize, count: usize) -> Vec<Row> {
+pub fn runs(class: usize, count: usize) -> Vec<Row> {
     let run = |at: usize| {
         let number = at / 100;
         let group = (number * 7 % 32) as u8;

@@ -13,6 +13,8 @@ mod loaded;
 #[cfg(test)]
 mod page;
 mod random;
+mod small_banks;
+mod small_faults;
 mod stream;
 mod tables;
 mod worked;
@@ -54,6 +56,8 @@ fn cases(seed: u64) -> Vec<Case> {
         random::cases(seed),
         tables::cases(),
         loaded::cases(seed),
+        small_banks::cases(seed),
+        small_faults::cases(),
     ]
     .concat()
 }
@@ -110,7 +114,7 @@ mod tests {
         }));
         assert!(books.len() >= 300, "{} books", books.len());
         let [(_, stdin), (_, stdout)] = files(1);
-        assert!(stdin.len() < 330_000, "{} bytes", stdin.len());
+        assert!(stdin.len() < 360_000, "{} bytes", stdin.len());
         assert!(stdout.len() < 300_000, "{} bytes", stdout.len());
     }
 
@@ -139,6 +143,10 @@ mod tests {
         }
         assert!(lines.lines().any(|line| line.starts_with("table ")));
         assert!(seen("join", 11) && seen("join", 12));
+        for number in (0..=9).chain([20]) {
+            assert!(seen("small-bank", number), "small-bank {number}");
+        }
+        assert!(!seen("small-bank", 15));
     }
 
     #[test]

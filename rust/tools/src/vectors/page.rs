@@ -59,7 +59,10 @@ impl Reader<'_> {
             let room = room as u32;
             return Some(call(Call::Join { other, room }, &book));
         }
-        let table = if tag >= 6 { self.table() } else { vec![] };
+        let table = match tag {
+            6 | 7 => self.table(),
+            _ => vec![],
+        };
         let (group, length) = (self.number(2) as u16, self.number(4));
         let which = match tag {
             1 => Call::Check,
@@ -68,6 +71,7 @@ impl Reader<'_> {
             4 => Call::CommodityLadder(group),
             6 => Call::ChargeBy { table },
             7 => Call::InterestLadderBy { table, group },
+            9 => Call::SmallBank,
             _ => panic!("no tag {tag}"),
         };
         Some(call(which, &self.book(length, runs)))
@@ -138,6 +142,10 @@ fn the_page_states_the_sizes_of_what_is_stored() {
         ),
         format!("- {books} random books of the seed, each under a random table"),
         format!("and {tables} random ones of the seed;"),
+        format!(
+            "- {} random pairs of such books of the seed",
+            super::small_banks::PAIRS
+        ),
     ] {
         assert_eq!(page.matches(&random).count(), 1, "{random}");
     }

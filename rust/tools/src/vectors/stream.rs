@@ -70,6 +70,7 @@ fn record(case: &Case) -> Vec<u8> {
         Call::ChargeBy { table } => of_book(6, &with_length(table), 0, book),
         Call::InterestLadderBy { table, group } => of_book(7, &with_length(table), *group, book),
         Call::Table => vec![8],
+        Call::SmallBank => of_book(9, &[], 0, book),
     }
 }
 
@@ -82,7 +83,7 @@ pub fn encode(cases: &[Case]) -> Vec<u8> {
 
 #[cfg(test)]
 mod tests {
-    use super::super::build::{call, charge_by, ladder_by};
+    use super::super::build::{call, charge_by, ladder_by, small_bank};
     use super::super::cases;
     use super::super::page::read;
     use super::*;
@@ -125,6 +126,14 @@ mod tests {
         ];
         assert_eq!(super::record(&charge_by(&[], &book)), runs.concat());
         assert_eq!(super::record(&call(Call::Table, &[])), [8]);
+        let runs = [
+            &[0x89, 0, 0, 40, 0, 0, 0][..],
+            &book[..8],
+            &[2, 0],
+            &[5; 16],
+        ];
+        assert_eq!(super::record(&small_bank(&book)), runs.concat());
+        assert_eq!(super::record(&small_bank(&[7])), [9, 0, 0, 1, 0, 0, 0, 7]);
     }
 
     #[test]

@@ -9,7 +9,7 @@ fn bond(days: u16, net: i64) -> Row {
 }
 
 /// Its equity book, and E1 to E6.
-fn examples() -> Vec<Vec<u8>> {
+pub fn examples() -> Vec<Vec<u8>> {
     let exchange = [(1, 50), (2, 100), (3, 150), (4, -20), (5, -180), (0, -35)];
     let commodity = [(150, 800), (150, -1000), (600, 600), (1100, -600)];
     vec![

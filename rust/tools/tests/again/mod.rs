@@ -1,14 +1,16 @@
-//! The lines of reports and ladders calculated again, from document 01's bands, a table's
+//! The lines of reports, ladders and small banks calculated again, from document 01's bands, a table's
 //! weights and per cents, and the second calculation. Nothing here is the command's own code.
 
 mod commodity;
 mod interest;
+mod small_bank;
 
 use books::{Book, Row};
 use std::collections::BTreeSet;
 
 pub use commodity::commodity;
 pub use interest::interest;
+pub use small_bank::small_bank;
 
 /// A number of which so many digits are decimal places, with thousands separators.
 pub fn decimal(value: i128, places: usize) -> String {

@@ -2,12 +2,9 @@
  * A call that is taken out writes zeros and no output. STAND_IN may also name a wrong count
  * of the rows taken by a charge, a fault of its lists of the currencies, a ladder that does not
  * add up, a wrong reading of floating-rate notes, or a table that is not heeded, is accepted
- * against its conditions or is tried out of its order. The archive's own calls have other
- * names here, proved_check and so on. */
-#include "market_risk.h"
-
-#include <stdlib.h>
-#include <string.h>
+ * against its conditions or is tried out of its order. The small bank's call is in small_bank.c.
+ * The archive's own calls have other names here, proved_check and so on. */
+#include "faults.h"
 
 void proved_check(const uint8_t *book, size_t len, uint64_t *out);
 void proved_table(uint8_t *out);
@@ -18,19 +15,6 @@ void proved_interest_ladder(const uint8_t *book, size_t len, const uint8_t *tabl
 void proved_commodity_ladder(const uint8_t *book, size_t len, size_t group, uint64_t *out);
 void proved_join(const uint8_t *a, size_t a_len, const uint8_t *b, size_t b_len, uint8_t *out,
                  size_t out_len, uint64_t *result);
-
-/* Whether STAND_IN is this name. */
-static int named(const char *name) {
-    const char *given = getenv("STAND_IN");
-    return given && !strcmp(given, name);
-}
-
-/* Writes zeros if a call is taken out. */
-static int taken_out(const char *call, uint64_t *out, size_t entries) {
-    if (!named(call) && !named("all")) return 0;
-    memset(out, 0, entries * sizeof *out);
-    return 1;
-}
 
 /* Makes a report's count of rows wrong: never any, one too many, or on a refusal those
  * before the bad row. Every other entry stays as it is. */

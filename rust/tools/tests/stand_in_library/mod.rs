@@ -1,5 +1,5 @@
 //! The command over a library with faults: built a second time, over the proved archive with
-//! tests/stand_in/stand_in.c before its calls.
+//! the files of tests/stand_in before its calls.
 #![allow(dead_code)]
 
 use crate::common::temporary;
@@ -8,12 +8,13 @@ use std::process::{Command, Output};
 use std::sync::OnceLock;
 use std::{env, fs};
 
-/// The six calls, as the C interface names them.
-pub const CALLS: [&str; 6] = [
+/// The seven calls, as the C interface names them.
+pub const CALLS: [&str; 7] = [
     "check",
     "charge",
     "interest_ladder",
     "commodity_ladder",
+    "small_bank",
     "join",
     "table",
 ];
@@ -31,6 +32,23 @@ fn build(command: &mut Command) {
     assert!(output.status.success(), "{command:?}: {errors}");
 }
 
+/// The files of the stand-in.
+const SOURCES: [&str; 2] = ["stand_in", "small_bank"];
+
+/// Compiles a file of the stand-in into a folder and gives the object.
+fn object(folder: &str, name: &str) -> String {
+    let (object, source) = (
+        format!("{folder}/{name}.o"),
+        format!("{HERE}/tests/stand_in/{name}.c"),
+    );
+    let include = format!("-I{HERE}/../../include");
+    // Compilers warn where the header's results have other lengths than the stand-in's.
+    let strict = ["-c", "-O1", "-Wall", "-Wextra", "-Werror"];
+    let files = [&include, "-o", &object, &source];
+    build(Command::new("cc").args(strict).args(files));
+    object
+}
+
 /// The archive with the stand-in before its calls. Its folder is given.
 fn archive() -> String {
     let proved = match env::var("MARKET_RISK_LIB_DIR") {
@@ -39,7 +57,7 @@ fn archive() -> String {
     };
     let folder = temporary("stand-in-library");
     fs::create_dir_all(&folder).unwrap();
-    let (object, fresh) = (format!("{folder}/stand_in.o"), format!("{folder}/fresh.a"));
+    let fresh = format!("{folder}/fresh.a");
     let mut rename = Command::new("objcopy");
     for call in CALLS {
         rename.args([
@@ -48,13 +66,8 @@ fn archive() -> String {
         ]);
     }
     build(rename.args([&format!("{proved}/libmarket_risk.a"), &fresh]));
-    let source = format!("{HERE}/tests/stand_in/stand_in.c");
-    let include = format!("-I{HERE}/../../include");
-    // Compilers warn where the header's results have other lengths than the stand-in's.
-    let strict = ["-c", "-O1", "-Wall", "-Wextra", "-Werror"];
-    let files = [&include, "-o", &object, &source];
-    build(Command::new("cc").args(strict).args(files));
-    build(Command::new("ar").args(["rD", &fresh, &object]));
+    let objects = SOURCES.map(|name| object(&folder, name));
+    build(Command::new("ar").args(["rD", &fresh]).args(objects));
     let archive = format!("{folder}/libmarket_risk.a");
     // An archive that is as it was keeps its date, and nothing is built again.
     if fs::read(&archive).ok() != fs::read(&fresh).ok() {

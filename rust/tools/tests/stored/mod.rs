@@ -26,18 +26,20 @@ fn rows(name: &str) -> Book {
     csv::parse(&text).unwrap().book
 }
 
-/// What is printed of a sample: its report, this with the charges of the currencies, or the
-/// ladder of one group.
+/// What is printed of a sample: its report, this with the charges of the currencies, the
+/// charges of a small bank, or the ladder of one group.
 #[derive(Clone, Copy)]
 pub enum Print {
     Report,
     Currencies,
+    SmallBank,
     Currency(usize),
     Commodity(usize),
 }
 
-/// All prints of a sample: the report, the currencies where there are several, and the ladder
-/// of every group that it has, or of group 0 if it has no rows at all.
+/// All prints of a sample: the report, the currencies where there are several, the charges of a
+/// small bank where it could be one's book, and the ladder of every group that it has, or of
+/// group 0 if it has no rows at all.
 fn prints_of(book: &Book) -> Vec<Print> {
     let groups = |class: usize| {
         let groups: BTreeSet<usize> = book.classes[class]
@@ -51,6 +53,8 @@ fn prints_of(book: &Book) -> Vec<Print> {
     };
     let mut all = vec![Print::Report];
     all.extend((groups(0).len() > 1).then_some(Print::Currencies));
+    let small = book.classes[..2].iter().all(Vec::is_empty);
+    all.extend(small.then_some(Print::SmallBank));
     all.extend(groups(0).into_iter().map(Print::Currency));
     all.extend(groups(3).into_iter().map(Print::Commodity));
     all
@@ -71,6 +75,7 @@ impl Stored {
         let print = match self.print {
             Print::Report => "report".into(),
             Print::Currencies => "currencies".into(),
+            Print::SmallBank => "small-bank".into(),
             Print::Currency(group) => format!("currency-{group}"),
             Print::Commodity(group) => format!("commodity-{group}"),
         };
@@ -87,11 +92,12 @@ impl Stored {
         let book = packed(&self.sample, &self.name());
         let group = match self.print {
             Print::Currency(group) | Print::Commodity(group) => group.to_string(),
-            Print::Report | Print::Currencies => String::new(),
+            Print::Report | Print::Currencies | Print::SmallBank => String::new(),
         };
         let mut words = match self.print {
             Print::Report => vec!["report", &book],
             Print::Currencies => vec!["report", &book, "--currencies"],
+            Print::SmallBank => vec!["small-bank", &book],
             Print::Currency(_) => vec!["ladder", &book, "--currency", &group],
             Print::Commodity(_) => vec!["ladder", &book, "--commodity", &group],
         };
@@ -111,6 +117,7 @@ impl Stored {
         let figures = match self.print {
             Print::Report => again::report(&self.book.encode().unwrap(), table),
             Print::Currencies => again::currencies(&self.book, table),
+            Print::SmallBank => again::small_bank(&self.book),
             Print::Currency(group) => again::interest(&self.book, table, group),
             Print::Commodity(group) => again::commodity(&self.book, group),
         };

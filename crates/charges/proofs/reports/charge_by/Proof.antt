@@ -5,14 +5,17 @@ use Prim.Native.Nat.{ℕ}
 use native.Mathlib.Omega.{arith}
 use borrow.Author.Needs.{needs}
 use Rattle.sums.specs.Sums.{sumOf}
+use Rattle.book.specs.Legs.{legsOf}
 use Rattle.book.specs.Accepted.{Accepted}
 use Rattle.book.proofs.Acceptance.{accepted}
 use Rattle.ladder.specs.declared.Table.{Table}
 use Rattle.ladder.specs.Inner.Steps.{TableBounds}
 use Rattle.charges.specs.Charges.{specificCharge}
 use Rattle.charges.specs.Report.{classRows}
-use Rattle.charges.proofs.Costs.{Costs, costs}
-use Rattle.charges.proofs.Reporting.{Lists, Six, taken-number, sums-all, specifics-total, generals-total, total-fits, report-refused, six-fit, report-charged}
+use Rattle.charges.specs.Inner.Slots.{LegSums}
+use Rattle.charges.proofs.Costs.{Costs, costs, generals-are}
+use Rattle.charges.proofs.Taking.{taken-number, sums-all}
+use Rattle.charges.proofs.Reporting.{Lists, Six, specifics-total, generals-total, total-fits, report-refused, six-fit, report-charged}
 use Rattle.charges.proofs.reports.charge_by.Statement.{statement}
 use Rattle.charges.proofs.reports.charge_by.Tie as tie
 
@@ -34,13 +37,16 @@ module _ (c : tie.Else1) where
   ok = start .pre
 
   of : Accepted s
-  of = accepted s (sym (taken-number table s _ (c .before .before .before .take-book .ensures .is-taken)) ∙ c .if1 .left)
+  of = accepted s (sym (taken-number _ _ _ (c .before .before .before .take-book .ensures .is-taken)) ∙ c .if1 .left)
 
-  cost : Costs table s (c .before .before .before .take-book .last .1 .0) (c .before .before .before .take-book .last .1 .1 .0)
-      (c .before .before .before .take-book .last .1 .1 .1 .0) (c .before .before .before .take-book .last .1 .1 .1 .1 .0)
-  cost =
-      let pass = c .before .before .before .take-book .ensures in
-      costs table s _ _ _ _ of (sums-all table s _ (pass .is-taken) (c .if1 .left) (pass .sums))
+  abbrev pass : tie.After-take-book
+  pass = c .before .before .before
+
+  sums : LegSums (legsOf s) (pass .take-book .last .1 .0) (pass .take-book .last .1 .1 .0) (pass .take-book .last .1 .1 .1 .0) (pass .take-book .last .1 .1 .1 .1 .0)
+  sums = let took = pass .take-book .ensures in sums-all _ _ _ (took .is-taken) (c .if1 .left) (took .sums)
+
+  cost : Costs s (pass .take-book .last .1 .0) (pass .take-book .last .1 .1 .0) (pass .take-book .last .1 .1 .1 .0) (pass .take-book .last .1 .1 .1 .1 .0)
+  cost = costs s _ _ _ _ of sums
 
 returns : tie.Need-returns
 returns c = report-refused _ _ _ (c .before .before .before .before .take-book .ensures .is-taken) _ (c .refused-report .ensures) (c .before .if1 .taken)
@@ -66,7 +72,7 @@ module _ (c : tie.After-group-list2) where
   lists =
       record {
         specifics-are = at-specifics .group-list .ensures ∙ cost passed .specifics-are;
-        generals-are = at-generals .interest-generals .ensures ∙ cost passed .generals-are;
+        generals-are = at-generals .interest-generals .ensures ∙ generals-are (s passed) _ _ _ _ (of passed) (sums passed) (table passed);
       }
 
   equity-total : sumOf (λ entry. entry) (c .group-list2 .result) ≡ specificCharge 2 (classRows (s passed) 2)

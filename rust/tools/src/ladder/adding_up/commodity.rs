@@ -1,9 +1,9 @@
 //! The lines of one commodity's ladder: amounts in thousands, charges in currency units.
 
-use super::Sign::Equal;
-use super::{by_matches, Line, Shown, Sides};
+use super::{by_matches, Line, Sides};
 use crate::ladder::bands::COMMODITY;
-use crate::text::{mils, whole};
+use crate::lines::{charge, parts, Shown, Sign::Equal};
+use crate::text::whole;
 use books::Row;
 use market_risk::CommodityLadder;
 
@@ -20,15 +20,12 @@ fn sides(rows: &[Row], group: u64, last: u16) -> Sides {
 }
 
 /// The charge in mils, by 1.5% of gross, 13.5% of the residual and 0.6% of what is carried.
-fn charge(gross: i128, residual: i128, carried: i128) -> Shown {
-    let parts = [
+fn by_three(gross: i128, residual: i128, carried: i128) -> Shown {
+    parts([
         (15_000 * gross, "1.5% of gross"),
         (135_000 * residual, "13.5% of residual"),
         (6_000 * carried, "0.6% of carried"),
-    ];
-    let sum = parts.iter().map(|(part, _)| part).sum();
-    let text = parts.map(|(part, what)| format!("{} ({what})", mils(part)));
-    (sum, text.join(" + "))
+    ])
 }
 
 /// The lines of a commodity: gross by the matches and by the rows, the residual and what is
@@ -42,14 +39,13 @@ pub fn commodity(rows: &[Row], group: u64, ladder: &CommodityLadder) -> Vec<Line
     let amount = |value: i128| (value, whole(value));
     let matched = by_matches(ladder.matches.into(), residual, whole);
     let by_steps = (carried, steps.map(whole).join(" + "));
-    let in_mils = (ladder.charge.into(), mils(ladder.charge));
-    let by_three = charge(all.gross(), all.net(), carried);
+    let by_three = by_three(all.gross(), all.net(), carried);
     vec![
         Line::new("gross", amount(all.gross()), Equal, matched),
         Line::new("gross", amount(all.gross()), Equal, all.sum()),
         Line::new("residual", amount(residual), Equal, all.difference()),
         Line::new("carried", amount(ladder.carried.into()), Equal, by_steps),
-        Line::new("charge", in_mils, Equal, by_three),
+        Line::new("charge", charge(ladder.charge), Equal, by_three),
     ]
 }
 

@@ -1,9 +1,9 @@
 //! The lines of one currency's ladder. A weighted position is a tenth of the currency unit,
 //! which is 100 mils.
 
-use super::Sign::{AtLeast, AtMost, Equal};
 use super::{by_matches, Line, Sides};
 use crate::ladder::bands::{band, column};
+use crate::lines::Sign::{AtLeast, AtMost, Equal};
 use crate::text::{mils, weighted};
 use books::Row;
 use market_risk::{InterestLadder, Table};

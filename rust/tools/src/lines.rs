@@ -1,0 +1,154 @@
+//! Lines that a user can check by hand: each holds a figure to what it must be.
+
+use crate::text::{mils, table};
+use std::fmt;
+
+/// A number, in the unit that both sides of a line have, and how it is printed.
+pub type Shown = (i128, String);
+
+/// How a figure stands to what it is held to.
+#[derive(Clone, Copy)]
+pub enum Sign {
+    Equal,
+    AtLeast,
+    AtMost,
+}
+
+impl Sign {
+    fn holds(self, left: i128, right: i128) -> bool {
+        match self {
+            Sign::Equal => left == right,
+            Sign::AtLeast => left >= right,
+            Sign::AtMost => left <= right,
+        }
+    }
+
+    fn text(self) -> &'static str {
+        match self {
+            Sign::Equal => "=",
+            Sign::AtLeast => ">=",
+            Sign::AtMost => "<=",
+        }
+    }
+}
+
+/// One line: a figure, what it is held to, and whether it holds.
+pub struct Line {
+    name: &'static str,
+    figure: String,
+    sign: &'static str,
+    right: String,
+    holds: bool,
+}
+
+impl Line {
+    pub fn new(name: &'static str, figure: Shown, sign: Sign, right: Shown) -> Line {
+        Line {
+            name,
+            holds: sign.holds(figure.0, right.0),
+            figure: figure.1,
+            sign: sign.text(),
+            right: right.1,
+        }
+    }
+}
+
+impl fmt::Display for Line {
+    fn fmt(&self, out: &mut fmt::Formatter) -> fmt::Result {
+        let (name, figure, sign, right) = (self.name, &self.figure, self.sign, &self.right);
+        write!(out, "{name} {figure} {sign} {right}")
+    }
+}
+
+/// A charge of the library's, in mils.
+pub fn charge(value: u64) -> Shown {
+    (value.into(), mils(value))
+}
+
+/// A charge in mils, as the sum of parts with their names.
+pub fn parts<const N: usize>(parts: [(i128, &str); N]) -> Shown {
+    let sum = parts.iter().map(|(part, _)| part).sum();
+    let text = parts.map(|(part, name)| format!("{} ({name})", mils(part)));
+    (sum, text.join(" + "))
+}
+
+/// The lines one below the other: names, figures and signs in columns.
+pub fn show(lines: &[Line]) -> String {
+    let cells = |line: &Line| vec![line.name.into(), line.figure.clone(), line.sign.into()];
+    let left = table(&lines.iter().map(cells).collect::<Vec<_>>());
+    let whole = left.lines().zip(lines);
+    whole
+        .map(|(left, line)| format!("{left} {}\n", line.right))
+        .collect()
+}
+
+/// The lines that do not hold.
+pub fn broken(lines: &[Line]) -> impl Iterator<Item = String> + '_ {
+    let broken = lines.iter().filter(|line| !line.holds);
+    broken.map(|line| format!("does not add up: {line}"))
+}
+
+/// Fails with what else is told and with every line that does not hold.
+pub fn hold(told: Option<String>, lines: &[Line]) -> Result<(), String> {
+    let told: Vec<String> = told.into_iter().chain(broken(lines)).collect();
+    match &told[..] {
+        [] => Ok(()),
+        told => Err(told.join("\n")),
+    }
+}
+
+#[cfg(test)]
+mod tests {
+    use super::*;
+
+    #[test]
+    fn signs_hold_as_they_are_printed() {
+        let hold = |sign: Sign| [4, 5, 6].map(|left| sign.holds(left, 5));
+        let cases = [
+            (Sign::Equal, "=", [false, true, false]),
+            (Sign::AtLeast, ">=", [false, true, true]),
+            (Sign::AtMost, "<=", [true, true, false]),
+        ];
+        for (sign, text, expected) in cases {
+            assert_eq!((sign.text(), hold(sign)), (text, expected));
+        }
+    }
+
+    #[test]
+    fn lines_are_shown_in_columns_and_told_where_they_do_not_hold() {
+        let shown = |value: i128| (value, value.to_string());
+        let lines = [
+            Line::new("a", shown(1_000), Sign::Equal, (1_000, "2 x 500".into())),
+            Line::new("long", shown(7), Sign::AtLeast, (8, "8 short".into())),
+        ];
+        let text = "a     1000   = 2 x 500\nlong     7  >= 8 short\n";
+        assert_eq!(show(&lines), text);
+        let told: Vec<String> = broken(&lines).collect();
+        assert_eq!(told, ["does not add up: long 7 >= 8 short"]);
+    }
+
+    /// Catches lines that are not looked at, or are where nothing else is told.
+    #[test]
+    fn every_line_must_hold_beside_what_else_is_told() {
+        let lines = |figure: u64| {
+            let equal = |name| Line::new(name, charge(figure), Sign::Equal, charge(0));
+            [equal("charge"), equal("total")]
+        };
+        let (right, wrong) = (lines(0), lines(1));
+        let broken = "does not add up: charge 0.001 = 0.000\ndoes not add up: total 0.001 = 0.000";
+        let differs = || Some("gross: differs".to_string());
+        assert_eq!(hold(None, &right), Ok(()));
+        assert_eq!(hold(None, &wrong), Err(broken.into()));
+        assert_eq!(hold(differs(), &right), Err("gross: differs".into()));
+        let both = format!("gross: differs\n{broken}");
+        assert_eq!(hold(differs(), &wrong), Err(both));
+    }
+
+    #[test]
+    fn a_charge_is_shown_in_currency_units_and_as_its_parts() {
+        assert_eq!(charge(4_500), (4_500, "4.500".into()));
+        let shown = parts([(4_000, "8% of gold"), (500, "3% of gross")]);
+        let text = "4.000 (8% of gold) + 0.500 (3% of gross)";
+        assert_eq!(shown, (4_500, text.into()));
+    }
+}
