@@ -6,13 +6,16 @@
 #include <string.h>
 #include <ucontext.h>
 
-enum { ROOM = 64 * 1024, PAINT = 0xa5, ROWS = 1000 };
+enum { ROOM = 256 * 1024, PAINT = 0xa5, ROWS = 1000 };
 
 static _Alignas(16) volatile uint8_t room[ROOM];
 
 /* 1,000 rows of each class, group 1, days 270 or 0, long 5: with every class every part of a call runs. */
 static uint8_t book[8 + 4 * ROWS * 16];
 static uint8_t joined[sizeof book];
+
+/* The same book with rows of 100 issues in each class, number 0 among them. */
+static uint8_t issues[sizeof book];
 
 /* A small bank's book: the last two classes of the one above. */
 static uint8_t small[8 + 2 * ROWS * 16];
@@ -33,6 +36,9 @@ static void fill(void)
     }
     memcpy(small + 4, book + 4, 4);
     memcpy(small + 8, book + 8 + 2 * ROWS * 16, 2 * ROWS * 16);
+    memcpy(issues, book, sizeof book);
+    for (size_t row = 0; row < 4 * ROWS; row++)
+        issues[8 + 16 * row + 6] = row % 100;
 }
 
 static void check(void) { market_risk_check(book, sizeof book, out); }
@@ -46,6 +52,8 @@ static void join(void)
     static const uint8_t empty[8];
     market_risk_join(book, sizeof book, empty, sizeof empty, joined, sizeof joined, out);
 }
+
+static void net(void) { market_risk_net(issues, sizeof issues, joined, sizeof joined, out); }
 
 static size_t used(void (*call)(void))
 {
@@ -80,5 +88,5 @@ int main(void)
     refused = print_used("check", check) + print_used("table", give_table); /* the next two take this table */
     refused += print_used("charge", charge) + print_used("interest_ladder", interest_ladder);
     refused += print_used("commodity_ladder", commodity_ladder) + print_used("small_bank", small_bank);
-    return refused + print_used("join", join);
+    return refused + print_used("join", join) + print_used("net", net);
 }

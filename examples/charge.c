@@ -1,7 +1,7 @@
 /* Charges some small books through the C interface and prints their reports, with the
  * interest charges of each currency that has any: under document 01's table, and one of them
  * under a table of its own. Then the charges of a bank with only foreign exchange and
- * commodities.
+ * commodities, and those of one bond, long and short, before it is netted and after.
  *
  *     cc -Wall -Wextra -Werror -Iinclude examples/charge.c target/staticlib/libmarket_risk.a -o charge
  */
@@ -60,6 +60,15 @@ static const uint8_t small[8 + 3 * 16] = {
     0, 0, 0,    0,    0, 0, 0, 0, 0,  0, 0, 0, 2, 0, 0, 0,
     3, 0, 0x1e, 0,    0, 0, 0, 0, 10, 0, 0, 0, 0, 0, 0, 0,
     3, 0, 0xd0, 0x02, 0, 0, 0, 0, 0,  0, 0, 0, 4, 0, 0, 0,
+};
+
+/* Currency 7, the same qualifying bond long 100 and short 40: 1,080 days (0x0438), coupon 800, issue 5. As it is, 160 basis points
+ * of 140 are 2,240,000 mils of specific risk, and of 17,500 long and 7,000 short 10% of the match and what is left are
+ * 70,000 + 1,050,000; netted, 160 basis points of 60 are 960,000, and 10,500 long cost 1,050,000. */
+static const uint8_t bonds[8 + 2 * 16] = {
+    2, 0, 0, 0, 0, 0, 0, 0,
+    7, 2, 0x38, 0x04, 0x20, 0x03, 5, 0, 100, 0, 0, 0, 0,  0, 0, 0,
+    7, 2, 0x38, 0x04, 0x20, 0x03, 5, 0, 0,   0, 0, 0, 40, 0, 0, 0,
 };
 
 /* A supervisor's own table, made up: 100 basis points in each of the fifteen bands; per cents
@@ -146,9 +155,22 @@ static void print_small_bank(const char *name, const uint8_t *book, size_t len)
         printf("fx %" PRIu64 "\ncommodity %" PRIu64 "\ntotal %" PRIu64 "\n", out[3], out[4], out[5]);
 }
 
+/* Charges the netted book, which is never longer than the book. */
+static void print_netted(const char *name, const uint8_t book[sizeof bonds])
+{
+    uint8_t netted[sizeof bonds];
+    uint64_t result[4];
+
+    market_risk_net(book, sizeof bonds, netted, sizeof netted, result);
+    if (result[0] != 0)
+        printf("%s\nrefused %" PRIu64 " row %" PRIu64 "\n", name, result[0], result[1]);
+    else
+        print_report(name, netted, result[3]);
+}
+
 int main(void)
 {
-    uint8_t spoiled[sizeof classes], ended[sizeof floating], table[36];
+    uint8_t spoiled[sizeof classes], ended[sizeof floating], unlike[sizeof bonds], table[36];
 
     market_risk_table(table);
     print_table("document 01's table", table);
@@ -167,5 +189,10 @@ int main(void)
     print_loaded();
     print_small_bank("book of a small bank", small, sizeof small);
     print_small_bank("book of four classes, as a small bank's", classes, sizeof classes);
+    memcpy(unlike, bonds, sizeof bonds);
+    unlike[8 + 16 + 2] = 0x37; /* the second bond is a day shorter */
+    print_report("book of one bond, long and short", bonds, sizeof bonds);
+    print_netted("the same, netted", bonds);
+    print_netted("book of two bonds of one number, netted", unlike);
     return 0;
 }

@@ -6,11 +6,11 @@
  * which refuses nothing, the first three entries are the refusal:
  *
  *     number   0 when the call is accepted, else document 01's number, 1 to 12, or one of
- *              document 02: 15, a floating-rate note with fixing over 360 days, or final
- *              maturity over 36,000 or before fixing; 18 and 19, a refused table; 20, interest
- *              or equity rows in a small bank's book
+ *              document 02: 13 and 14, an issue that cannot be netted; 15, a floating-rate note
+ *              with fixing over 360 days, or final maturity over 36,000 or before fixing; 18 and
+ *              19, a refused table; 20, interest or equity rows in a small bank's book
  *     row      the refused row, counted from 0 through the whole file; 0 for all but 4 to 9
- *              and 15
+ *              and 13 to 15
  *     book     1 for a fault of the second book of a join, else 0
  *
  * When the number is not 0, every other entry is 0. Charges are in mils, thousandths of
@@ -28,8 +28,9 @@
  *
  * Pointers must hold as many bytes or entries as is said. A null pointer with length 0 is
  * a file or table of no bytes, or an output without room; a result is never null. A result
- * must not overlap a book or a table, nor the output of a join either of its books. No call
- * keeps a pointer, allocates, or has state of its own, so calls may run at once.
+ * must not overlap a book or a table, nor the output of a join or of netting a book that the
+ * call is given. No call keeps a pointer, allocates, or has state of its own, so calls may run
+ * at once.
  *
  * The stack that a call takes, in bytes, measured on x86-64 and rounded up. No call
  * recurses, so no book and no table makes it more.
@@ -41,9 +42,10 @@
  *     market_risk_commodity_ladder   600
  *     market_risk_small_bank       15000
  *     market_risk_join               500
+ *     market_risk_net              81000
  *
- * The charge and the small bank call memset. Where the loader binds it at its first call, that takes
- * some 3000 bytes more, once.
+ * The charge, the small bank and netting call memset. Where the loader binds it at its first call,
+ * that takes some 3000 bytes more, once.
  */
 #ifndef MARKET_RISK_H
 #define MARKET_RISK_H
@@ -98,6 +100,22 @@ void market_risk_small_bank(const uint8_t *book, size_t len, uint64_t out[6]);
  * result: number, row, book; the length of the joined book. */
 void market_risk_join(const uint8_t *a, size_t a_len, const uint8_t *b, size_t b_len,
                       uint8_t *out, size_t out_len, uint64_t result[4]);
+
+/* Writes the netted book to the front of out, which has out_len bytes. Within a class the rows
+ * of one issue number other than 0 become one row: it stands in the place of the first and has
+ * its bytes 0 to 7, and the net of all of them on its side; an issue that nets to zero is left
+ * out. Rows with issue number 0 stay as they are, and one number in two classes is two issues.
+ * Bytes past the netted book keep their values, and a refused call writes none. It is never
+ * longer than the book: len bytes are always enough.
+ * When every row has passed, these are tried over the whole file, one after the other:
+ *     13   a row whose group, kind, days or coupon (of a floating-rate note its final maturity)
+ *          is not that of the first row of its issue in its class; the first such row is given
+ *     14   an issue whose net is over 1,000,000,000, whatever its rows sum to on the way; the
+ *          first row of the earliest such issue is given
+ *     12   an output shorter than the netted book
+ * result: number, row, book (0); the length of the netted book. */
+void market_risk_net(const uint8_t *book, size_t len, uint8_t *out, size_t out_len,
+                     uint64_t result[4]);
 
 #ifdef __cplusplus
 }

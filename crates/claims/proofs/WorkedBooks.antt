@@ -17,7 +17,7 @@ use Rattle.ladder.specs.Interest.{against, left, zones12, zones23, zones13, cro
 use Rattle.ladder.specs.Commodity.{toBand, carry}
 use Rattle.table.specs.Loaded.{weightAt, percentsOf, tableOf, weightsHold, percentsHold, tableRefusal}
 use Rattle.layout.specs.Written.{written}
-use Rattle.layout.specs.Files.{twoBytes, fourBytes, rowBytes, contentsBytes, fileOf, legCounts, bookOf}
+use Rattle.layout.specs.Files.{twoBytes, fourBytes, rowBytes, contentsBytes, fileOf, countsBy, bookBy, bookOf}
 use Rattle.charges.specs.Bands.{firstBand, lowCoupon, interestBand, commodityBand, bandIn}
 use Rattle.charges.specs.Weights.{qualifyingWeight, interestWeight, equityWeight, specificWeight}
 use Rattle.charges.specs.Charges.{specificOf, specificCharge, interestFiguresOf, commodityFiguresOf, interestGeneral, equityGeneral, exchangeGeneral, commodityGeneral, simplifiedCommodity, interestRisk, equityRisk, ofGroup, byCurrency}
@@ -49,7 +49,7 @@ unfolding weightAt percentsOf tableOf weightsHold percentsHold tableRefusal
 tables facts = facts
 
 unfoldable writing : List Worked → List Worked
-unfolding written twoBytes fourBytes rowBytes contentsBytes fileOf legCounts bookOf addedCounts joinedCounts joinedBody joined inBook settled joinRefusal joinedOf joinOutput joinedBook
+unfolding written twoBytes fourBytes rowBytes contentsBytes fileOf countsBy bookBy bookOf addedCounts joinedCounts joinedBody joined inBook settled joinRefusal joinedOf joinOutput joinedBook
 writing facts = facts
 
 unfoldable weights : List Worked → List Worked

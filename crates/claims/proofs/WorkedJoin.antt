@@ -1,14 +1,13 @@
 -- Joining used once: two books of one zone each, whose charges are known, bound the joined book exactly.
 -- Assumes nothing.
 use mathlib.Core.Path.{_≡_, refl}
-use mathlib.Core.List.{List, [], _∷_, map, List·Memᴰ, List·Memᴰ·head, List·Memᴰ·tail}
+use mathlib.Core.List.{List, [], _∷_, map}
 use Prim.Native.Nat.{ℕ, _+_, _<_}
 use native.Mathlib.Omega.{arith}
 use lib.ListN.{length, replicate}
 use Rattle.sums.specs.Every.{Every, none, also}
-use Rattle.sums.proofs.Every.{every-mapped}
+use Rattle.sums.proofs.Every.{every-member, every-mapped}
 use Rattle.sums.proofs.Spans.{in-span}
-use Rattle.book.specs.declared.Row.{Row}
 use Rattle.ladder.specs.Rows.{AtMostTwoZones}
 use Rattle.table.specs.Loaded.{standardBytes}
 use Rattle.table.proofs.Accepting.{standard-accepted}
@@ -17,8 +16,8 @@ use Rattle.charges.specs.Report.{classRows, reportOf}
 use Rattle.join.specs.Joined.{joinRefusal}
 use Rattle.market_risk.specs.Entries.{reportFigures}
 use Rattle.claims.specs.Zones.{TwoZonesEach}
-use Rattle.claims.specs.Demands.{AtMost, no-figures, figure, joinedBook}
-use Rattle.claims.specs.Worked.{Within, all-within, one-within, firstZone, secondZone, JoinedWithin}
+use Rattle.claims.specs.Demands.{Within, all-within, one-within, AtMost, no-figures, figure, joinedBook}
+use Rattle.claims.specs.Worked.{firstZone, secondZone, JoinedWithin}
 use Rattle.claims.proofs.Joining.{joining}
 use Rattle.claims.proofs.WorkedBooks.{given}
 
@@ -43,10 +42,6 @@ unfolding given
 joined-bands = refl
 
 -- ---- so no row lies in zone 3
-near : {rows : List Row} → Every (λ row. bandIn 1 row < 7) rows → (row : Row) → List·Memᴰ row rows → bandIn 1 row < 7
-near (also p rest) row (List·Memᴰ·head own) = rw own p
-near (also p rest) row (List·Memᴰ·tail later) = near rest row later
-
 bands-below : Every (λ band. band < 7) (map (bandIn 1) (classRows (joinedBook firstZone secondZone out) 1))
 bands-below =
     let three : 3 < 7 = omega arith in
@@ -57,7 +52,7 @@ two-zones : TwoZonesEach (joinedBook firstZone secondZone out)
 unfolding TwoZonesEach AtMostTwoZones
 two-zones currency h one two three =
     let rows = every-mapped (bandIn 1) (λ row below. below) (classRows (joinedBook firstZone secondZone out) 1) bands-below in
-    omega (arith, near rows (three .row) (three .is-row), in-span (bandIn 1 (three .row)) 7 8 (three .lies-in))
+    omega (arith, every-member rows (three .row) (three .is-row), in-span (bandIn 1 (three .row)) 7 8 (three .lies-in))
 
 -- ---- and joining bounds each figure by the two together
 sums : List ℕ → List ℕ → List ℕ

@@ -46,6 +46,11 @@ abbrev pub HandingHolds : Type 0
 HandingHolds = (s : List ℕ) → Handing s
 
 -- ---- joining
+-- each figure of a list is at most the one in its place
+pub data Within : (figures most : List ℕ) → Type 0 where
+  all-within : Within [] []
+  one-within : {f m : ℕ} {more most : List ℕ} → f ≤ m → Within more most → Within (f ∷ more) (m ∷ most)
+
 -- each figure is at most the two in its place together
 pub data AtMost : (whole a b : List ℕ) → Type 0 where
   no-figures : AtMost [] [] []

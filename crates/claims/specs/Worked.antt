@@ -1,5 +1,5 @@
 -- The books worked by hand, E1 to E10 of document 01, as legs and figures. No book is in group 0, but for gold.
-use Prim.Native.Nat.{ℕ, _≤_}
+use Prim.Native.Nat.{ℕ}
 use mathlib.Core.List.{List, [], _∷_, _++_, flatMap}
 use lib.ListN.{take, replicate}
 use Rattle.book.specs.Legs.{Leg}
@@ -8,7 +8,7 @@ use Rattle.layout.specs.Files.{twoBytes, bookOf}
 use Rattle.charges.specs.Bands.{interestBand}
 use Rattle.charges.specs.Report.{reportOf}
 use Rattle.market_risk.specs.Entries.{reportFigures, reportEntries}
-use Rattle.claims.specs.Demands.{joinedBook}
+use Rattle.claims.specs.Demands.{Within, joinedBook}
 use Rattle.claims.specs.Currencies.{specificIn, generalIn}
 
 -- ---- legs, their issue number 0
@@ -130,11 +130,6 @@ firstZone = bookOf (government 9 270 75 0 ∷ [])
 
 abbrev pub secondZone : List ℕ
 secondZone = bookOf (government 9 900 30 0 ∷ [])
-
--- each figure of a list is at most the one in its place
-pub data Within : (figures most : List ℕ) → Type 0 where
-  all-within : Within [] []
-  one-within : {f m : ℕ} {more most : List ℕ} → f ≤ m → Within more most → Within (f ∷ more) (m ∷ most)
 
 abbrev pub JoinedWithin : Type 0
 JoinedWithin =

@@ -3,3 +3,4 @@ pub mod Writing
 pub mod Classwise
 pub mod Appended
 pub mod Whole
+pub mod Rows

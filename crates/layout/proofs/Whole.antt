@@ -23,7 +23,7 @@ pub contents-length : (counts : Counts) → length (contentsBytes counts) ≡ co
 unfolding contentsBytes flatMap twoBytes
 contents-length counts = refl
 
-two-bytes : (n : ℕ) → n % 256 + 256 * (n / 256) ≡ n
+pub two-bytes : (n : ℕ) → n % 256 + 256 * (n / 256) ≡ n
 two-bytes n = omega arith
 
 module _ (counts : Counts) (body : ℕ → List ℕ) where

@@ -28,16 +28,14 @@ contentsBytes counts = flatMap (λ class. twoBytes (countIn counts class)) class
 unfoldable pub fileOf : Counts → (ℕ → List ℕ) → List ℕ
 fileOf counts body = contentsBytes counts ++ flatMap body classes
 
--- how many of some legs are of each class
-unfoldable pub legCounts : List Leg → Counts
-legCounts legs =
-    record {
-      interest = length (ofClass 1 legs);
-      equity = length (ofClass 2 legs);
-      exchange = length (ofClass 3 legs);
-      commodity = length (ofClass 4 legs);
-    }
+-- how many rows each class has
+unfoldable pub countsBy : (ℕ → List Row) → Counts
+countsBy rows = record { interest = length (rows 1); equity = length (rows 2); exchange = length (rows 3); commodity = length (rows 4) }
+
+-- the book of the rows of each class (document 01, The book file)
+unfoldable pub bookBy : (ℕ → List Row) → List ℕ
+bookBy rows = fileOf (countsBy rows) (λ class. flatMap rowBytes (rows class))
 
 -- the book of some legs (document 01, The book file)
 unfoldable pub bookOf : List Leg → List ℕ
-bookOf legs = fileOf (legCounts legs) (λ class. flatMap rowBytes (ofClass class legs))
+bookOf legs = bookBy (λ class. ofClass class legs)

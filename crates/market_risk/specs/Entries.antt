@@ -7,6 +7,7 @@ use Rattle.charges.specs.declared.InterestLadder.{InterestLadder}
 use Rattle.charges.specs.declared.CommodityLadder.{CommodityLadder}
 use Rattle.charges.specs.declared.SmallBank.{SmallBank}
 use Rattle.join.specs.declared.Joined.{Joined}
+use Rattle.netting.specs.declared.Netted.{Netted}
 
 -- number, row, book (document 01, Who is told no, and why)
 unfoldable pub refusalEntries : Refusal → List ℕ
@@ -49,3 +50,7 @@ smallEntries bank = refusalEntries (bank .refusal) ++ smallFigures bank
 -- the refusal, the joined length (document 01, Joining)
 unfoldable pub joinedEntries : Joined → List ℕ
 joinedEntries joined = refusalEntries (joined .refusal) ++ (joined .length ∷ [])
+
+-- the refusal, the length of the netted book (P1)
+unfoldable pub nettedEntries : Netted → List ℕ
+nettedEntries netted = refusalEntries (netted .refusal) ++ (netted .length ∷ [])

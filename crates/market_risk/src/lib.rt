@@ -8,7 +8,8 @@ ghost use Rattle.layout.specs.Written.{written};
 ghost use Rattle.charges.specs.Report.{reportOf, interestLadderOf, commodityLadderOf};
 ghost use Rattle.charges.specs.SmallBank.{smallBankOf};
 ghost use Rattle.join.specs.Joined.{joinedOf, joinOutput};
-ghost use Rattle.market_risk.specs.Entries.{refusalEntries, reportEntries, interestEntries, commodityEntries, smallEntries, joinedEntries};
+ghost use Rattle.netting.specs.Netted.{nettedOf, nettingOutput};
+ghost use Rattle.market_risk.specs.Entries.{refusalEntries, reportEntries, interestEntries, commodityEntries, smallEntries, joinedEntries, nettedEntries};
 
 // The entries of a report: its refusal and figures, and two for each currency.
 const REPORT: usize = 75;
@@ -146,5 +147,20 @@ pub extern "C" fn market_risk_join(a: &[u8], b: &[u8], out: &mut [u8], result: &
         joined.refusal.row as u64,
         joined.refusal.book as u64,
         joined.length as u64,
+    ];
+}
+
+// Nets the issues of a book into out: bytes past the netted book keep their values, of a refused call all do.
+#[no_mangle]
+pub extern "C" fn market_risk_net(book: &[u8], out: &mut [u8], result: &mut [u64; 4])
+    ensures { λ r. ⌜ now (out .exit) ≡ nettingOutput (now (book .entry)) (now (out .entry)) ⌝ }
+    ensures { λ r. ⌜ now (result .exit) ≡ nettedEntries (nettedOf (now (book .entry)) (len (now (out .entry)))) ⌝ }
+{
+    let netted = netting::net(book, out);
+    *result = [
+        netted.refusal.number as u64,
+        netted.refusal.row as u64,
+        netted.refusal.book as u64,
+        netted.length as u64,
     ];
 }

@@ -1,8 +1,8 @@
--- Laws of what holds of every element: of two lists, of a list of lists, of mapped and of permuted lists; and the element at an index.
+-- Laws of what holds of every element: of its members, of two lists, of a list of lists, of mapped and of permuted lists; and the element at an index.
 -- Assumes nothing.
 use Prim.Native.Nat.{ℕ, zero, suc, _*_, _≤_, _<_}
 use mathlib.Core.Path.{_≡_, refl, sym, _∙_}
-use mathlib.Core.List.{List, [], _∷_, _++_, map, flatMap, Perm}
+use mathlib.Core.List.{List, [], _∷_, _++_, map, flatMap, Perm, List·Memᴰ, List·Memᴰ·head, List·Memᴰ·tail}
 use native.Mathlib.Omega.{arith}
 use lib.ListN.{length, getD}
 use Rattle.sums.specs.Sums.{sumOf}
@@ -22,6 +22,15 @@ module _ {A : Type 0} {P : A → Type 0} where
   every-at none i d h = let never : ⊥ = omega arith in absurd never
   every-at (also p rest) zero d h = p
   every-at (also p rest) (suc i) d h = every-at rest i d (omega arith)
+
+  -- of each member, and the other way
+  pub every-member : {l : List A} → Every P l → (a : A) → List·Memᴰ a l → P a
+  every-member (also p rest) a (List·Memᴰ·head own) = rw own p
+  every-member (also p rest) a (List·Memᴰ·tail later) = every-member rest a later
+
+  pub member-every : (l : List A) → ((a : A) → List·Memᴰ a l → P a) → Every P l
+  member-every [] h = none
+  member-every (a ∷ l) h = also (h a (List·Memᴰ·head refl)) (member-every l (λ b later. h b (List·Memᴰ·tail later)))
 
   -- amounts that are each within a bound
   pub every-bound : (f : A → ℕ) (bound : ℕ) → ((a : A) → P a → f a ≤ bound) → {l : List A} → Every P l → sumOf f l ≤ bound * length l

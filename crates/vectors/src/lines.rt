@@ -102,6 +102,14 @@ pub fn join(a: &[u8], b: &[u8], out: &mut [u8]) {
     end();
 }
 
+pub fn net(book: &[u8], out: &mut [u8]) {
+    let netted = netting::net(book, out);
+    start(b"net", netted.refusal);
+    figure(netted.length as u64);
+    figure(checksum(out));
+    end();
+}
+
 fn wide(byte: u8) -> u64
     ensures { λ r. ⌜ r < 256 ⌝ }
 {

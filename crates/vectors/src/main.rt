@@ -57,17 +57,31 @@ fn answer_join(in_runs: bool) -> bool {
     if m != a_length || n != b_length {
         return false;
     }
-    join_into(&a[..m], &b[..n], room)
+    write_into(5, &a[..m], &b[..n], room)
 }
 
-// Joins into an output of as many bytes as there is room for, each 165 before.
-fn join_into(a: &[u8], b: &[u8], room: usize) -> bool {
+// Joins two books, or nets the first, into an output of as many bytes as there is room for, each 165 before.
+fn write_into(call: u8, a: &[u8], b: &[u8], room: usize) -> bool {
     let mut out = [165u8; 65536];
     if out.len() < room {
         return false;
     }
-    lines::join(a, b, &mut out[..room]);
+    match call {
+        5 => lines::join(a, b, &mut out[..room]),
+        _ => lines::net(a, &mut out[..room]),
+    }
     true
+}
+
+fn answer_net(in_runs: bool) -> bool {
+    let room = input::read_u32();
+    let length = input::read_u32();
+    let mut space = io::large_buffer();
+    let n = input::read_book(&mut space, length, in_runs);
+    if n != length {
+        return false;
+    }
+    write_into(10, &space[..n], b"", room)
 }
 
 // Answers the next call of the stream, and whether there was one.
@@ -82,6 +96,7 @@ fn answer_next() -> bool {
         7 => answer_by_table(3, in_runs),
         8 => answer_table(),
         9 => answer_standard(call, in_runs),
+        10 => answer_net(in_runs),
         _ => false,
     }
 }

@@ -8,6 +8,7 @@ pub mod csv;
 pub mod damage;
 pub mod file;
 pub mod generate;
+pub mod issues;
 pub mod names;
 pub mod random;
 pub mod small;

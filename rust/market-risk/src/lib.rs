@@ -20,11 +20,13 @@
 //! Charges are in mils, thousandths of the currency unit. The module [`raw`] has the same
 //! calls with the results of the C interface, entry by entry.
 
+mod net;
 pub mod raw;
 mod refusal;
 mod small_bank;
 mod table;
 
+pub use net::{net, netted};
 pub use refusal::Refusal;
 pub use small_bank::{small_bank, SmallBank};
 pub use table::{PerCents, Table};

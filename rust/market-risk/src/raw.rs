@@ -40,6 +40,13 @@ mod c {
             out_len: usize,
             result: *mut u64,
         );
+        pub fn market_risk_net(
+            book: *const u8,
+            len: usize,
+            out: *mut u8,
+            out_len: usize,
+            result: *mut u64,
+        );
     }
 }
 
@@ -107,6 +114,20 @@ pub fn join(a: &[u8], b: &[u8], out: &mut [u8], result: &mut [u64; 4]) {
             a.len(),
             b.as_ptr(),
             b.len(),
+            out.as_mut_ptr(),
+            out.len(),
+            result.as_mut_ptr(),
+        )
+    }
+}
+
+/// Number, row, book; the length of the netted book at the front of `out`.
+pub fn net(book: &[u8], out: &mut [u8], result: &mut [u64; 4]) {
+    // SAFETY: as in `check`; `out` does not overlap the book, since it is borrowed alone.
+    unsafe {
+        c::market_risk_net(
+            book.as_ptr(),
+            book.len(),
             out.as_mut_ptr(),
             out.len(),
             result.as_mut_ptr(),

@@ -16,9 +16,9 @@ use std::fmt;
 /// ```
 #[derive(Clone, Copy, Debug, PartialEq, Eq)]
 pub struct Refusal {
-    /// 1 to 12, 15 or 18 to 20.
+    /// 1 to 15 or 18 to 20.
     pub number: u64,
-    /// The bad row, counted from 0 through the whole file; 0 for all but 4 to 9 and 15.
+    /// The bad row, counted from 0 through the whole file; 0 for all but 4 to 9 and 13 to 15.
     pub row: u64,
     /// 1 for a fault of the second book of a join, else 0.
     pub book: u64,
@@ -44,7 +44,7 @@ impl Refusal {
 
     /// Whether the refusal is of one row.
     pub fn names_row(&self) -> bool {
-        matches!(self.number, 4..=9 | 15)
+        matches!(self.number, 4..=9 | 13..=15)
     }
 
     /// The reason in words.
@@ -61,7 +61,9 @@ impl Refusal {
             9 => "an amount over 1,000,000,000",
             10 => "ladder group over 31",
             11 => "more than 4,000 rows joined",
-            12 => "output shorter than the joined book",
+            12 => "output shorter than the result",
+            13 => "group, kind, days or coupon not those of the first row of its issue",
+            14 => "the net of its issue is over 1,000,000,000",
             15 => "fixing over 360 days, or final maturity over 36,000 or before fixing",
             18 => "the table has not 36 bytes",
             19 => "the table's weights fall or exceed 2,000, or its per cents are out of order",

@@ -142,9 +142,9 @@ fn every_number_that_is_given_has_words() {
         book: 0,
     };
     let unknown = of(99).reason();
-    for number in (1..=12).chain([15, 18, 19, 20]) {
+    for number in (1..=15).chain([18, 19, 20]) {
         assert_ne!(of(number).reason(), unknown, "{number}");
-        let rows = (4..=9).contains(&number) || number == 15;
+        let rows = (4..=9).contains(&number) || (13..=15).contains(&number);
         assert_eq!(of(number).to_string().contains(" row 3"), rows, "{number}");
     }
 }
@@ -152,7 +152,8 @@ fn every_number_that_is_given_has_words() {
 #[test]
 fn every_entry_is_written() {
     let marked = u64::MAX;
-    let (mut check, mut charge, mut join) = ([marked; 3], [marked; 75], [marked; 4]);
+    let (mut check, mut charge) = ([marked; 3], [marked; 75]);
+    let (mut join, mut net) = ([marked; 4], [marked; 4]);
     let (mut interest, mut commodity) = ([marked; 13], [marked; 7]);
     let mut small_bank = [marked; 6];
     let table = Table::amendment();
@@ -163,6 +164,7 @@ fn every_entry_is_written() {
         raw::commodity_ladder(book, 31, &mut commodity);
         raw::small_bank(book, &mut small_bank);
         raw::join(book, &[0; 8], &mut [0; 8], &mut join);
+        raw::net(book, &mut [0; 8], &mut net);
         let results = [
             &mut check[..],
             &mut charge,
@@ -170,6 +172,7 @@ fn every_entry_is_written() {
             &mut commodity,
             &mut small_bank,
             &mut join,
+            &mut net,
         ];
         for out in results {
             assert!(!out.contains(&marked));

@@ -1,8 +1,8 @@
 //! Each named field against its entry of the C interface, on books whose entries differ.
 //! Catches two fields that are exchanged, and one that is read from another's entry.
 
-use market_risk::{charge, commodity_ladder, interest_ladder, join, joined, raw, small_bank};
-use market_risk::{Refusal, Table};
+use market_risk::{charge, commodity_ladder, interest_ladder, join, joined, net, netted, raw};
+use market_risk::{small_bank, Refusal, Table};
 
 /// A row of 16 bytes with one signed amount: long above zero, short below.
 fn row(group: u8, kind: u8, days: u16, coupon: u16, net: i32) -> [u8; 16] {
@@ -211,4 +211,29 @@ fn joins_and_their_refusals() {
     assert_eq!(entries, [6, 2, 1, 0]);
     let [number, row, book, _] = entries;
     assert_eq!(joined(&a, &bad), Err(Refusal { number, row, book }));
+}
+
+#[test]
+fn netting_and_its_refusals() {
+    // Issue 5 in rows 0 and 2: long 10 and short 4.
+    let mut rows = [(1080, 10), (270, 3), (1080, -4)].map(|(days, net)| row(7, 1, days, 800, net));
+    (rows[0][6], rows[2][6]) = (5, 5);
+    let whole = book([&rows, &[], &[], &[]]);
+    let mut one = row(7, 1, 1080, 800, 6);
+    one[6] = 5;
+    let expected = book([&[one, rows[1]], &[], &[], &[]]);
+    let (mut out, mut entries) = (vec![9; 50], [0; 4]);
+    raw::net(&whole, &mut out, &mut entries);
+    assert_eq!(entries, [0, 0, 0, 8 + 2 * 16]);
+    assert_eq!(out, [&expected[..], &[9; 10]].concat());
+    assert_eq!(net(&whole, &mut out), Ok(40));
+    assert_eq!(netted(&whole), Ok(expected));
+    // Number and row differ: row 2 is of another currency.
+    rows[2][0] = 8;
+    let bad = book([&rows, &[], &[], &[]]);
+    raw::net(&bad, &mut out, &mut entries);
+    assert_eq!(entries, [13, 2, 0, 0]);
+    let [number, row, book, _] = entries;
+    assert_eq!(netted(&bad), Err(Refusal { number, row, book }));
+    assert_eq!(net(&bad, &mut out), Err(Refusal { number, row, book }));
 }

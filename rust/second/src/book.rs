@@ -4,7 +4,7 @@
 use crate::kinds::{self, FLOATING};
 
 /// The four classes of rows, in file order.
-#[derive(Clone, Copy, Debug, PartialEq, Eq)]
+#[derive(Clone, Copy, Debug, PartialEq, Eq, Hash)]
 pub enum Class {
     Interest,
     Equity,
@@ -13,12 +13,15 @@ pub enum Class {
 }
 
 /// The classes in the order of their counts and bodies.
-const CLASSES: [Class; 4] = [
+pub const CLASSES: [Class; 4] = [
     Class::Interest,
     Class::Equity,
     Class::Exchange,
     Class::Commodity,
 ];
+
+/// The greatest amount that a row may have.
+pub const LIMIT: i128 = 1_000_000_000;
 
 /// One row, as numbers wide enough for every later step.
 #[derive(Clone, Copy, Debug)]
@@ -30,6 +33,8 @@ pub struct Row {
     pub days: i128,
     /// Bytes 4-5: the coupon; of a floating rate, the days to final maturity.
     pub coupon: i128,
+    /// Bytes 6-7: the issue number, or 0. No charge looks at it.
+    pub issue: u64,
     pub long: i128,
     pub short: i128,
 }
@@ -100,6 +105,7 @@ fn decode(class: Class, bytes: &[u8]) -> Row {
         kind: bytes[1],
         days: i128::from(number(&bytes[2..4])),
         coupon: i128::from(number(&bytes[4..6])),
+        issue: number(&bytes[6..8]),
         long: i128::from(number(&bytes[8..12])),
         short: i128::from(number(&bytes[12..16])),
     }
@@ -115,7 +121,6 @@ fn fixes_in_time(note: &Row) -> bool {
 /// The number of the first fault of a row, or 0. Of a floating-rate note, 15 is tried in the
 /// place of 6 and 7.
 fn row_fault(row: &Row) -> u64 {
-    const LIMIT: i128 = 1_000_000_000;
     let (last_day, last_coupon) = match row.class {
         Class::Interest => (36_000, 10_000),
         Class::Equity | Class::Exchange => (0, 0),

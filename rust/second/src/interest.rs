@@ -199,6 +199,7 @@ mod tests {
             kind,
             days: 60,
             coupon: 300,
+            issue: 0,
             long: 1,
             short: 0,
         }

@@ -69,6 +69,7 @@ mod tests {
             kind,
             days: 0,
             coupon: 0,
+            issue: 0,
             long: 1,
             short: 0,
         }

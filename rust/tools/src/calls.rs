@@ -1,8 +1,8 @@
-//! The seven calls with the results of the C interface, by whichever calculation.
+//! The eight calls with the results of the C interface, by whichever calculation.
 
 use market_risk::raw;
 
-/// A calculation that answers all seven calls, writing every entry of each result.
+/// A calculation that answers all eight calls, writing every entry of each result.
 pub trait Calls {
     /// What the calculation is called in a message. No two have the same name.
     fn name(&self) -> &'static str;
@@ -19,6 +19,8 @@ pub trait Calls {
     fn small_bank(&self, book: &[u8], out: &mut [u64; 6]);
     /// Number, row, book; length.
     fn join(&self, a: &[u8], b: &[u8], out: &mut [u8], result: &mut [u64; 4]);
+    /// Number, row, book; length.
+    fn net(&self, book: &[u8], out: &mut [u8], result: &mut [u64; 4]);
     /// Document 01's table.
     fn table(&self, out: &mut [u8; 36]);
 }
@@ -47,6 +49,9 @@ impl Calls for Proved {
     }
     fn join(&self, a: &[u8], b: &[u8], out: &mut [u8], result: &mut [u64; 4]) {
         raw::join(a, b, out, result);
+    }
+    fn net(&self, book: &[u8], out: &mut [u8], result: &mut [u64; 4]) {
+        raw::net(book, out, result);
     }
     fn table(&self, out: &mut [u8; 36]) {
         raw::table(out);
@@ -83,6 +88,10 @@ impl Calls for Second {
 
     fn join(&self, a: &[u8], b: &[u8], out: &mut [u8], result: &mut [u64; 4]) {
         *result = second::join(a, b, out).entries();
+    }
+
+    fn net(&self, book: &[u8], out: &mut [u8], result: &mut [u64; 4]) {
+        *result = second::net(book, out).entries();
     }
 
     fn table(&self, out: &mut [u8; 36]) {

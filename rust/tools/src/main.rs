@@ -9,6 +9,7 @@ mod files;
 mod join;
 mod ladder;
 mod lines;
+mod net;
 mod pack;
 mod progress;
 mod report;
@@ -24,13 +25,14 @@ use std::io::Write;
 use std::process::ExitCode;
 
 /// The subcommands, in the order of the help text.
-const COMMANDS: [Command; 10] = [
+const COMMANDS: [Command; 11] = [
     pack::COMMAND,
     unpack::COMMAND,
     report::COMMAND,
     ladder::COMMAND,
     small_bank::COMMAND,
     join::COMMAND,
+    net::COMMAND,
     table::COMMAND,
     compare::COMMAND,
     bench::COMMAND,

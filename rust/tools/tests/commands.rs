@@ -15,6 +15,7 @@ fn help_for_all_and_each() {
         "ladder",
         "small-bank",
         "join",
+        "net",
         "table",
         "compare",
         "bench",
@@ -30,7 +31,7 @@ fn help_for_all_and_each() {
 }
 
 /// What the report of each sample has, in whole currency units unless it is shown.
-const SAMPLES: [(&str, &str); 9] = [
+const SAMPLES: [(&str, &str); 11] = [
     ("equity", "0 0 8,800 4,800 0 0 13,600"),
     ("swap", "213,280 4,580,112.500 0 0 0 0 4,793,392.500"),
     ("keyed", "0 735 0 0 0 0 735"),
@@ -43,6 +44,8 @@ const SAMPLES: [(&str, &str); 9] = [
     ),
     ("treasury", "20,000 4,005 8,000 8,000 4,000 0 44,005"),
     ("floating", "38,000 38,140 0 0 0 0 76,140"),
+    ("netting", "5,440 1,145 5,600 2,400 0 0 14,585"),
+    ("netted", "960 1,071 2,400 2,400 0 0 6,831"),
 ];
 
 #[test]
@@ -68,6 +71,7 @@ fn packed_samples_unpack_to_the_same_book() {
         "fx",
         "mixed",
         "floating",
+        "netting",
     ] {
         let book = packed(name, "unpack");
         let (text, again) = (
@@ -79,7 +83,7 @@ fn packed_samples_unpack_to_the_same_book() {
         assert_eq!(fs::read(&book).unwrap(), fs::read(&again).unwrap());
     }
     // The sorted samples come back letter by letter.
-    for name in ["swap", "floating"] {
+    for name in ["swap", "floating", "netting"] {
         let text = prints(&["unpack", &packed(name, "letters"), "-"]);
         assert_eq!(text, fs::read_to_string(sample(name)).unwrap());
     }
@@ -240,6 +244,7 @@ fn csv_text_is_told_from_a_book() {
         &["unpack", &csv, &out],
         &["join", &csv, &book, &out],
         &["join", &book, &csv, &out],
+        &["net", &csv, &out],
     ] {
         let told = fails(1, words);
         assert!(told.contains("keyed.csv: looks like CSV text"), "{told}");

@@ -58,6 +58,7 @@ fn lost_output_is_an_error() {
         "pack x.csv -",
         "unpack x.book -",
         "join x.book x.book -",
+        "net x.book -",
         "report x.book",
         "report x.book --currencies",
         "ladder x.book --currency 7",
@@ -108,6 +109,7 @@ fn an_output_over_an_input_is_refused() {
         "join x.book y.book x.book",
         "join x.book y.book y.book",
         "join x.book x.book x.book",
+        "net x.book x.book",
         "table x.csv --out x.csv",
         "table soft.csv --out x.csv",
     ] {
@@ -119,6 +121,9 @@ fn an_output_over_an_input_is_refused() {
         assert!(error(2, script(&folder, text)).contains("are one file"));
         assert_eq!(read(), before, "{text}");
     }
+    let piped = "\"$1\" net - x.book <x.book";
+    assert!(error(2, script(&folder, piped)).contains("are one file"));
+    assert_eq!(read(), before);
     // Two inputs may be one file, and an old output may be replaced.
     prints(&[
         "join",

@@ -14,7 +14,7 @@ use stored::{all, names, samples, Print, Stored};
 fn every_print_is_stored_and_nothing_else() {
     let wanted: BTreeSet<String> = all().iter().map(Stored::name).collect();
     assert_eq!(names(&format!("{}/expected", samples()), ".txt"), wanted);
-    assert_eq!(wanted.len(), 51);
+    assert_eq!(wanted.len(), 55);
     assert_eq!(
         names(&samples(), ".table"),
         BTreeSet::from(["steps".into()])
@@ -41,7 +41,7 @@ fn every_line_of_the_stored_texts_is_calculated_again() {
 }
 
 /// The totals and charges, worked by hand in document 01 and in samples/README.md.
-const BY_HAND: [(&str, &str); 42] = [
+const BY_HAND: [(&str, &str); 46] = [
     ("empty.report", "0.000"),
     ("swap.report", "4,793,392.500"),
     ("swap.currency-7", "4,580,112.500"),
@@ -84,6 +84,10 @@ const BY_HAND: [(&str, &str); 42] = [
     ("small-bank.commodity-0", "2,880.000"),
     ("small-bank.commodity-4", "27,600.000"),
     ("small-bank.commodity-9", "22,320.000"),
+    ("netting.report", "14,585.000"),
+    ("netting.currency-7", "1,145.000"),
+    ("netted.report", "6,831.000"),
+    ("netted.currency-7", "1,071.000"),
 ];
 
 /// Catches a stored charge that both calculations would have wrong.
@@ -170,4 +174,15 @@ fn e4_is_stored_as_it_is_joined() {
     prints(&["join", &a, &b, &joined]);
     let expected = fs::read(packed("joined", "e4")).unwrap();
     assert_eq!(fs::read(&joined).unwrap(), expected);
+}
+
+/// Catches a netted sample that is not the netted book of the other.
+#[test]
+fn the_netted_sample_is_stored_as_it_is_netted() {
+    let (book, netted) = (packed("netting", "net"), temporary("netted-sample.book"));
+    prints(&["net", &book, &netted]);
+    let expected = fs::read(packed("netted", "net")).unwrap();
+    assert_eq!(fs::read(&netted).unwrap(), expected);
+    let text = fs::read_to_string(format!("{}/netted.csv", samples())).unwrap();
+    assert_eq!(prints(&["unpack", &netted, "-"]), text);
 }

@@ -29,12 +29,13 @@ fn a_short_benchmark_prints_every_line() {
     let tables: Vec<&str> = text.split("\n\n").skip(1).collect();
     let calls = [
         ("check", 9),
-        // Calls that take a table have a line more, and the small bank has lines of its own.
+        // Calls that take a table have a line more; the small bank and netting have their own lines.
         ("charge", 10),
         ("interest ladder", 10),
         ("commodity ladder", 9),
         ("small bank", 7),
         ("join", 9),
+        ("net", 8),
     ];
     assert_eq!(tables.len(), calls.len());
     for (table, (call, lines)) in tables.iter().zip(calls) {

@@ -1,5 +1,6 @@
 //! The books that are timed, and the tables that they are charged under.
 
+use super::issues;
 use books::generate::{row, Shape};
 use books::tables::Table;
 use books::{Book, Random, ROW_BYTES};
@@ -11,8 +12,16 @@ pub struct Case {
     pub books: Vec<Vec<u8>>,
     pub pairs: [Vec<Vec<u8>>; 2],
     pub table: Vec<u8>,
-    /// Whether the small bank's call is timed on the case, or all others.
-    pub small_bank: bool,
+    pub whose: Whose,
+}
+
+/// Which calls are timed on a case.
+#[derive(Clone, Copy, Debug, PartialEq, Eq)]
+pub enum Whose {
+    SmallBank,
+    Net,
+    /// All the others.
+    Others,
 }
 
 impl Case {
@@ -46,7 +55,7 @@ const SMALL_BANKS: [(&str, usize, &[usize]); 6] = [
 
 /// How many books of a sort there are: a power of two, 16 to 128. So many keep the processor
 /// from learning the branches of each, and they stay in its cache.
-fn count(rows: usize) -> u64 {
+pub fn count(rows: usize) -> u64 {
     (64_000 / rows.max(1)).clamp(16, 128).next_power_of_two() as u64
 }
 
@@ -81,7 +90,7 @@ fn accepted(name: &'static str, rows: usize, classes: &[usize]) -> Case {
         books: series(0, rows, rows, classes),
         pairs: [1, 2].map(|number| series(number, rows, half, classes)),
         table: second::table().to_vec(),
-        small_bank: false,
+        whose: Whose::Others,
     }
 }
 
@@ -127,7 +136,8 @@ pub fn cases() -> Vec<Case> {
     let sorts = SORTS.iter();
     let accepted = sorts.map(|(name, rows, classes)| accepted(name, *rows, classes));
     let others = [refused(&[0, 1, 2, 3]), under_own_table()];
-    accepted.chain(others).chain(small_banks()).collect()
+    let all = accepted.chain(others).chain(small_banks());
+    all.chain(issues::cases()).collect()
 }
 
 /// The cases of small banks.
@@ -135,7 +145,7 @@ fn small_banks() -> impl Iterator<Item = Case> {
     let sorts = SMALL_BANKS.iter();
     let accepted = sorts.map(|(name, rows, classes)| accepted(name, *rows, classes));
     accepted.chain([refused(&[2, 3])]).map(|case| Case {
-        small_bank: true,
+        whose: Whose::SmallBank,
         ..case
     })
 }
@@ -177,7 +187,8 @@ mod tests {
     /// would not show.
     #[test]
     fn interest_rows_are_notes_and_bonds() {
-        for case in cases().iter().filter(|case| case.rows > 0) {
+        let charged = |case: &&Case| case.rows > 0 && case.whose != Whose::Net;
+        for case in cases().iter().filter(charged) {
             let books = case.books.iter().chain(case.pairs.iter().flatten());
             let rows: Vec<u8> = books
                 .flat_map(|book| Book::decode(book).unwrap().classes[0].clone())
@@ -229,7 +240,7 @@ mod tests {
     /// Catches a line of the small bank that is refused with 20 before any row is read.
     #[test]
     fn small_banks_have_no_other_rows() {
-        for case in cases().iter().filter(|case| case.small_bank) {
+        for case in cases().iter().filter(|case| case.whose == Whose::SmallBank) {
             let number = |book: &Vec<u8>| second::small_bank(book).refusal.number;
             let expected = if case.name.starts_with("refused") {
                 9
@@ -242,7 +253,7 @@ mod tests {
 
     #[test]
     fn the_numbers_of_books_are_powers_of_two() {
-        for case in cases() {
+        for case in cases().iter().filter(|case| case.whose != Whose::Net) {
             let lists = [&case.books, &case.pairs[0], &case.pairs[1]];
             assert!(lists.iter().all(|list| list.len().is_power_of_two()));
         }

@@ -41,3 +41,21 @@ where
         .map(answer)
         .collect()
 }
+
+/// The answers of a call on a book that writes another, with an output as long as the book that
+/// holds what it held before.
+pub fn expected_of_outputs<F>(case: &Case, call: F) -> Rc<[Answer]>
+where
+    F: Fn(&[u8], &mut [u8], &mut [u64; 4]),
+{
+    let answer = |book: &Vec<u8>| {
+        let mut entries = [0; 4];
+        let mut output = vec![OLD_BYTE; book.len()];
+        call(book, &mut output, &mut entries);
+        Answer {
+            entries: entries.to_vec(),
+            output,
+        }
+    };
+    case.books.iter().map(answer).collect()
+}

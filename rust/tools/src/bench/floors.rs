@@ -16,6 +16,12 @@ pub fn copy(a: &[u8], b: &[u8], out: &mut [u8], result: &mut [u64; 4]) {
     *result = [0, 0, 0, out.len() as u64];
 }
 
+/// A book's bytes.
+pub fn copy_book(book: &[u8], out: &mut [u8], result: &mut [u64; 4]) {
+    out.copy_from_slice(book);
+    *result = [0, 0, 0, out.len() as u64];
+}
+
 /// The sum of words, byte by byte.
 pub fn sum_bytes(book: &[u8], sum: &mut [u64; 1]) {
     let place = |at: usize| 1u64 << (8 * (at % 8));
@@ -29,5 +35,11 @@ pub fn sum_bytes(book: &[u8], sum: &mut [u64; 1]) {
 pub fn copy_bytes(a: &[u8], b: &[u8], out: &mut [u8], result: &mut [u64; 4]) {
     let bytes = a.iter().chain(&b[8..]);
     let count = out.iter_mut().zip(bytes).map(|(to, from)| *to = *from);
+    *result = [0, 0, 0, count.count() as u64];
+}
+
+/// The copy of a book, byte by byte.
+pub fn copy_book_bytes(book: &[u8], out: &mut [u8], result: &mut [u64; 4]) {
+    let count = out.iter_mut().zip(book).map(|(to, from)| *to = *from);
     *result = [0, 0, 0, count.count() as u64];
 }

@@ -1,10 +1,11 @@
 //! Who is timed for each call: the proved library first, then others and a floor.
 
-use super::cases::Case;
-use super::expected::{expected, expected_of_pairs};
-use super::floors::{copy, copy_bytes, sum_bytes, sum_words};
+use super::cases::{Case, Whose};
+use super::expected::{expected, expected_of_outputs, expected_of_pairs};
+use super::floors::{copy, copy_book, copy_book_bytes, copy_bytes, sum_bytes, sum_words};
 use super::timed::Timed;
-use super::work::{of_book, of_group, of_pair, of_table, of_table_and_group, Answer, Work};
+use super::work::{of_book, of_group, of_output, of_pair, of_table, of_table_and_group};
+use super::work::{Answer, Work};
 use crate::calls::{Calls, Second};
 use crate::cli::Failure;
 use market_risk::raw;
@@ -16,11 +17,11 @@ type Sides<'a> = Result<Vec<Timed<'a>>, Failure>;
 /// One side: its name, its work and what it must answer.
 type Side<'a> = (&'static str, Box<dyn Work + 'a>, Rc<[Answer]>);
 
-/// A call, whether it takes a table, whether it is the small bank's, and how its sides are made.
+/// A call, whether it takes a table, the cases that it is timed on, and how its sides are made.
 pub struct Call {
     pub name: &'static str,
     pub takes_table: bool,
-    pub small_bank: bool,
+    pub whose: Whose,
     pub sides: fn(&Case) -> Sides,
 }
 
@@ -28,47 +29,53 @@ impl Call {
     /// Whether the call is timed on a case.
     pub fn takes(&self, case: &Case) -> bool {
         let table = self.takes_table || !case.own_table();
-        table && self.small_bank == case.small_bank
+        table && self.whose == case.whose
     }
 }
 
 /// The calls, in the order of the tables.
-pub const CALLS: [Call; 6] = [
+pub const CALLS: [Call; 7] = [
     Call {
         name: "check",
         takes_table: false,
-        small_bank: false,
+        whose: Whose::Others,
         sides: check,
     },
     Call {
         name: "charge",
         takes_table: true,
-        small_bank: false,
+        whose: Whose::Others,
         sides: charge,
     },
     Call {
         name: "interest ladder",
         takes_table: true,
-        small_bank: false,
+        whose: Whose::Others,
         sides: interest_ladder,
     },
     Call {
         name: "commodity ladder",
         takes_table: false,
-        small_bank: false,
+        whose: Whose::Others,
         sides: commodity_ladder,
     },
     Call {
         name: "small bank",
         takes_table: false,
-        small_bank: true,
+        whose: Whose::SmallBank,
         sides: small_bank,
     },
     Call {
         name: "join",
         takes_table: false,
-        small_bank: false,
+        whose: Whose::Others,
         sides: join,
+    },
+    Call {
+        name: "net",
+        takes_table: false,
+        whose: Whose::Net,
+        sides: net,
     },
 ];
 
@@ -156,5 +163,16 @@ fn join(case: &Case) -> Sides<'_> {
         ("proved", of_pair(pairs, raw::join), expected.clone()),
         ("Rust", of_pair(pairs, fast::join), expected),
         ("copy", of_pair(pairs, copy), copied),
+    ])
+}
+
+fn net(case: &Case) -> Sides<'_> {
+    let books = &case.books;
+    let expected = expected_of_outputs(case, |book, out, result| Second.net(book, out, result));
+    let copied = expected_of_outputs(case, copy_book_bytes);
+    compared(vec![
+        ("proved", of_output(books, raw::net), expected.clone()),
+        ("Rust", of_output(books, fast::net), expected),
+        ("copy", of_output(books, copy_book), copied),
     ])
 }

@@ -114,6 +114,7 @@ fn each_name_times_its_own_call() {
         "commodity_ladder",
         "small_bank",
         "join",
+        "net",
     ];
     let cases = cases();
     for (call, function) in CALLS.iter().zip(functions) {
@@ -121,12 +122,13 @@ fn each_name_times_its_own_call() {
         for side in (call.sides)(first(call, &cases)).unwrap() {
             let path = match side.name {
                 "proved" => format!("market_risk::raw::{function}"),
-                "Rust" if ["join", "small_bank"].contains(&function) => {
+                "Rust" if ["join", "net", "small_bank"].contains(&function) => {
                     format!("fast::{function}::{function}")
                 }
                 "Rust" => format!("fast::{function}"),
                 "C" => format!("fast::expert::{function}"),
                 "words" => "market_risk::bench::floors::sum_words".to_string(),
+                _ if function == "net" => "market_risk::bench::floors::copy_book".to_string(),
                 _ => "market_risk::bench::floors::copy".to_string(),
             };
             assert_eq!(side.path(), path);
@@ -141,7 +143,8 @@ fn the_proved_library_comes_first() {
     for call in &CALLS {
         let sides = (call.sides)(first(call, &cases)).unwrap();
         let names: Vec<&str> = sides.iter().map(|side| side.name).collect();
-        let floor = if call.name == "join" { "copy" } else { "words" };
+        let writes = ["join", "net"].contains(&call.name);
+        let floor = if writes { "copy" } else { "words" };
         let named = names.iter().copied().filter(|name| *name != "C");
         assert!(named.eq(["proved", "Rust", floor]), "{names:?}");
     }
@@ -170,9 +173,37 @@ fn the_small_bank_has_lines_of_its_own() {
         let table = Table::new(call, &cases).unwrap();
         let books: Vec<&str> = table.lines.iter().map(|line| line.book).collect();
         let own = books.iter().filter(|book| **book == "fx and commodity");
-        let small_bank = call.name == "small bank";
+        let (small_bank, net) = (call.name == "small bank", call.name == "net");
         assert_eq!(own.count(), if small_bank { 3 } else { 0 }, "{books:?}");
-        assert_eq!(books.contains(&"all classes"), !small_bank, "{books:?}");
-        assert!(books.contains(&"refused, last row"), "{books:?}");
+        let others = !small_bank && !net;
+        assert_eq!(books.contains(&"all classes"), others, "{books:?}");
+        assert_eq!(books.contains(&"refused, last row"), !net, "{books:?}");
+    }
+}
+
+/// Catches lines of netting that are missing, or that stand in another call's table.
+#[test]
+fn netting_has_lines_of_its_own() {
+    let cases = cases();
+    let lines = [
+        ("no rows", 0),
+        ("1 issue", 40),
+        ("10 issues", 40),
+        ("40 issues", 40),
+        ("1 issue", 4_000),
+        ("60 issues", 4_000),
+        ("4,000 issues", 4_000),
+        ("60 issues, refused", 4_000),
+    ];
+    for call in &CALLS {
+        let table = Table::new(call, &cases).unwrap();
+        let own: Vec<(&str, usize)> = table
+            .lines
+            .iter()
+            .map(|line| (line.book, line.rows))
+            .collect();
+        assert_eq!(own == lines, call.name == "net", "{}", call.name);
+        let issues = own.iter().any(|(book, _)| book.contains("issue"));
+        assert_eq!(issues, call.name == "net", "{}", call.name);
     }
 }

@@ -1,8 +1,9 @@
-//! One random case: two books, a table, a group and the length of an output.
+//! One random case: two books, a table, a group and the lengths of two outputs.
 
-use super::e4::add_e4;
+use super::e4::{add_e4, add_e4_issue};
 use books::damage::{damage, damage_note};
 use books::generate::{book, interest_book, interest_rows, ladder_book, Shape};
+use books::issues::{spoil, Issues};
 use books::small::{slip_in, small_book};
 use books::tables::random::{accepted, broken, nudged, of_wrong_length, WAYS};
 use books::{Random, ROW_BYTES};
@@ -18,6 +19,8 @@ pub struct Case {
     pub group: usize,
     /// The length of join's output.
     pub room: usize,
+    /// The length of the output of netting the first book.
+    pub net_room: usize,
     /// The seed of the order in which the sample of demand 3 puts rows.
     pub order: u64,
 }
@@ -50,15 +53,25 @@ fn group(random: &mut Random, a: &[u8]) -> usize {
     }
 }
 
-/// A length of the output, mostly next to the joined length.
-fn room(random: &mut Random, joined: usize) -> usize {
+/// A length of an output, mostly next to what is to be written.
+fn room(random: &mut Random, written: usize) -> usize {
     match random.below(8) {
         0 => random.pick(&[0, 7, 8, 9, 64_008, 65_536]),
-        1 => random.below(joined as u64 + 1) as usize,
-        2 => joined.saturating_sub(1),
-        3 => joined + 1,
-        4 => joined + random.below(100) as usize,
-        _ => joined,
+        1 => random.below(written as u64 + 1) as usize,
+        2 => written.saturating_sub(1),
+        3 => written + 1,
+        4 => written + random.below(100) as usize,
+        _ => written,
+    }
+}
+
+/// A length of the output of netting: every third time none or hardly any where a book cannot be
+/// netted, which is told all the same.
+fn net_room(random: &mut Random, book: &[u8]) -> usize {
+    match second::netted(book) {
+        Err(_) if random.once_in(3) => random.pick(&[0, 7, 8]),
+        Err(_) => room(random, book.len()),
+        Ok(netted) => room(random, netted.len()),
     }
 }
 
@@ -132,6 +145,35 @@ fn books_of_small_banks(random: &mut Random) -> [Vec<u8>; 2] {
     })
 }
 
+/// Two books whose rows share issue numbers, within a class, across classes and with each other;
+/// every third time with E4 among them, in one issue. Every fourth book has one or two rows that are
+/// unlike their issue, every tenth is damaged.
+fn books_of_issues(random: &mut Random, table: &[u8]) -> [Vec<u8>; 2] {
+    let shape = match random.once_in(2) {
+        true => Shape::new(random, 0),
+        false => Shape::of_currencies(random, 0),
+    };
+    let issues = Issues::new(random, &shape);
+    let most = if random.once_in(40) { 400 } else { 12 };
+    let mut books = [0; 2].map(|_| {
+        let rows = random.below(most) as usize;
+        issues.book(random, rows)
+    });
+    if random.once_in(3) {
+        add_e4_issue(random, &mut books, table);
+    }
+    books.map(|mut book| {
+        if random.once_in(4) {
+            (0..=random.below(2)).for_each(|_| spoil(random, &mut book));
+        }
+        let mut bytes = book.encode().expect("few rows");
+        if random.once_in(10) {
+            damage(random, &mut bytes);
+        }
+        bytes
+    })
+}
+
 /// A table: mostly an accepted one, often document 01's; else with one condition broken by one,
 /// with one byte changed, or of a wrong length.
 fn table(random: &mut Random) -> Vec<u8> {
@@ -148,12 +190,13 @@ fn table(random: &mut Random) -> Vec<u8> {
 }
 
 impl Case {
-    /// The case with this number of a seed.
+    /// The case with this number of a seed. Every fourth is about issues.
     pub fn new(seed: u64, number: u64) -> Case {
         // The table has a stream of its own.
         let table = table(&mut Random::of_case(!seed, number));
         let mut random = Random::of_case(seed, number);
         let [a, b] = match random.below(18) {
+            _ if number % 4 == 3 => books_of_issues(&mut random, &table),
             0 | 1 => books_of_currencies(&mut random, &table),
             2 | 3 => books_of_notes(&mut random),
             4 | 5 => books_of_one_group(&mut random),
@@ -164,6 +207,7 @@ impl Case {
             group: group(&mut random, &a),
             room: room(&mut random, (a.len() + b.len()).saturating_sub(8)),
             order: random.draw(),
+            net_room: net_room(&mut random, &a),
             table,
             a,
             b,

@@ -1,4 +1,4 @@
-//! All seven calls on one case, entry by entry and byte by byte.
+//! All eight calls on one case, entry by entry and byte by byte.
 
 use super::case::Case;
 use crate::calls::Calls;
@@ -41,28 +41,46 @@ fn both<const N: usize>(
     unequal_by(call, names, &library, &other)
 }
 
-/// The output of a join, between guards, and its result.
-fn joined(calls: &dyn Calls, case: &Case) -> (Vec<u8>, [u64; 4]) {
+/// An output of so many bytes, between guards, and the result of a call that writes to it.
+fn output(room: usize, run: impl Fn(&mut [u8], &mut [u64; 4])) -> (Vec<u8>, [u64; 4]) {
     let pattern = |at: usize| (at * 7 + 0xa5) as u8;
-    let mut bytes: Vec<u8> = (0..case.room + 2 * GUARD).map(pattern).collect();
+    let mut bytes: Vec<u8> = (0..room + 2 * GUARD).map(pattern).collect();
     let mut result = [MARK; 4];
-    let out = &mut bytes[GUARD..GUARD + case.room];
-    calls.join(&case.a, &case.b, out, &mut result);
+    run(&mut bytes[GUARD..GUARD + room], &mut result);
     (bytes, result)
 }
 
-/// Joins with both calculations and compares all results and all bytes.
-fn join(library: &dyn Calls, other: &dyn Calls, case: &Case) -> Option<String> {
-    let (ours, result) = joined(library, case);
-    let (theirs, expected) = joined(other, case);
-    let names = [library.name(), other.name()];
-    unequal_by("join", names, &result, &expected).or_else(|| {
+/// Writes with both calculations and compares all results and all bytes.
+fn writing(
+    call: &str,
+    calculations: [&dyn Calls; 2],
+    room: usize,
+    run: impl Fn(&dyn Calls, &mut [u8], &mut [u64; 4]),
+) -> Option<String> {
+    let [(ours, result), (theirs, expected)] =
+        calculations.map(|calculation| output(room, |out, result| run(calculation, out, result)));
+    let names = calculations.map(|calculation| calculation.name());
+    unequal_by(call, names, &result, &expected).or_else(|| {
         let at = ours.iter().zip(&theirs).position(|(one, two)| one != two)?;
         let place = at as i64 - GUARD as i64;
         let ([one, two], byte, expected) = (names, ours[at], theirs[at]);
         Some(format!(
-            "join: output byte {place} is {byte} by {one} and {expected} by {two}"
+            "{call}: output byte {place} is {byte} by {one} and {expected} by {two}"
         ))
+    })
+}
+
+/// Joins with both calculations.
+fn join(calculations: [&dyn Calls; 2], case: &Case) -> Option<String> {
+    writing("join", calculations, case.room, |calls, out, result| {
+        calls.join(&case.a, &case.b, out, result);
+    })
+}
+
+/// Nets the first book with both calculations.
+fn net(calculations: [&dyn Calls; 2], case: &Case) -> Option<String> {
+    writing("net", calculations, case.net_room, |calls, out, result| {
+        calls.net(&case.a, out, result);
     })
 }
 
@@ -108,7 +126,9 @@ fn of_book(calculations: [&dyn Calls; 2], case: &Case) -> Option<String> {
 
 /// The first difference of a case, in words.
 pub fn difference(library: &dyn Calls, other: &dyn Calls, case: &Case) -> Option<String> {
-    of_book([library, other], case)
-        .or_else(|| join(library, other, case))
+    let both = [library, other];
+    of_book(both, case)
+        .or_else(|| join(both, case))
+        .or_else(|| net(both, case))
         .or_else(|| table(library, other))
 }

@@ -48,10 +48,34 @@ pub fn add_e4(random: &mut Random, books: &mut [Book; 2], table: &[u8]) {
     }
 }
 
+/// The issue of E4's middle rows, which is no other of the books that they are put into.
+const ISSUE: u16 = 9_000;
+
+/// The same with its two rows of 900 days as one issue: netted, the joined book has none of them.
+pub fn add_e4_issue(random: &mut Random, books: &mut [Book; 2], table: &[u8]) {
+    add_e4(random, books, table);
+    for book in books {
+        let middle = |row: &&mut Row| row.days == E4_DAYS[1];
+        let last = book.classes[0].iter_mut().rev().take(2);
+        last.filter(middle).for_each(|row| row.issue = ISSUE);
+    }
+}
+
 #[cfg(test)]
 mod tests {
     use super::*;
     use books::tables::random::accepted;
+
+    /// Catches a middle row without its number, or another row with it.
+    #[test]
+    fn the_middle_rows_are_one_issue() {
+        for case in 0..20 {
+            let mut books = [Book::default(), Book::default()];
+            add_e4_issue(&mut Random::of_case(10, case), &mut books, &second::table());
+            let issues = books.map(|book| [0, 1].map(|at| book.classes[0][at].issue));
+            assert_eq!(issues, [[0, ISSUE], [ISSUE, 0]]);
+        }
+    }
 
     /// Catches positions that are not equal, and other amounts than document 01's own.
     #[test]

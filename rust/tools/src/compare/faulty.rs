@@ -168,6 +168,10 @@ impl Calls for Faulty {
         }
     }
 
+    fn net(&self, book: &[u8], out: &mut [u8], result: &mut [u64; 4]) {
+        Second.net(book, out, result);
+    }
+
     fn table(&self, out: &mut [u8; 36]) {
         Second.table(out);
     }

@@ -1,23 +1,23 @@
-//! Demand 3, the charges of each currency, the ladders and the small bank on one case, by the
-//! library's own figures: lists and ladders that add up, order, mirror and joining, all books of
-//! the case under its one table.
+//! Demand 3, the charges of each currency, the ladders, the small bank and netting on one case, by
+//! the library's own figures: lists and ladders that add up, order, mirror and joining, all books
+//! of the case under its one table.
 
 use super::case::Case;
 use super::check::unequal;
 use super::premises::{at_most_two, zones, Zones};
-use super::{ladders, small_laws};
+use super::{ladders, net_laws, small_laws};
 use crate::calls::Calls;
 use books::{Book, Random, Row};
 use second::GROUPS;
 
 /// The entries of a report.
-type Report = [u64; 75];
+pub type Report = [u64; 75];
 
 /// The entries of a call on a joined book and on its two parts.
 type Three<'a> = [&'a [u64]; 3];
 
 /// The names of the charges and the total, in the report's order, from entry 3 on.
-const FIGURES: [&str; 7] = [
+pub const FIGURES: [&str; 7] = [
     "interest specific",
     "interest general",
     "equity specific",
@@ -49,7 +49,7 @@ const LISTS: [List; 2] = [
 ];
 
 /// The report of a book under the table of a case.
-fn report(calls: &dyn Calls, case: &Case, book: &[u8]) -> Report {
+pub fn report(calls: &dyn Calls, case: &Case, book: &[u8]) -> Report {
     let mut out = [0; 75];
     calls.charge(book, &case.table, &mut out);
     out
@@ -177,4 +177,5 @@ pub fn broken(calls: &dyn Calls, case: &Case) -> Option<String> {
         .or_else(|| order_and_mirror(calls, case))
         .or_else(|| joining(calls, case))
         .or_else(|| small_laws::broken(calls, case))
+        .or_else(|| net_laws::broken(calls, case))
 }

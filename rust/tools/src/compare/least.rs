@@ -1,6 +1,8 @@
 //! What a run must have seen at least.
 
 use super::floating::Floating;
+use super::net_joins::NetJoins;
+use super::nets::Nets;
 use super::premises::Premises;
 use super::small_banks::SmallBanks;
 use super::tables::Tables;
@@ -8,52 +10,68 @@ use super::tally::Tally;
 
 /// What 20,000 cases must show at least: about a third of what they do show.
 const LEAST: Tally = Tally {
-    accepted: 3_900,
-    with_rows: 3_900,
-    after_first: 960,
+    accepted: 4_800,
+    with_rows: 4_450,
+    after_first: 795,
     refused: [
-        0, 50, 120, 530, 255, 340, 140, 180, 235, 110, 0, 0, 0, 0, 0, 355,
+        0, 35, 89, 375, 200, 270, 110, 145, 190, 84, 0, 0, 0, 0, 0, 235,
     ],
-    ladder_refused: 740,
-    three_zones: 280,
-    carried: 760,
+    ladder_refused: 675,
+    three_zones: 175,
+    carried: 695,
     joins: [
-        2_050, 80, 175, 790, 395, 520, 210, 275, 360, 165, 0, 20, 1_050, 0, 0, 555,
+        2_500, 55, 135, 610, 325, 420, 170, 235, 295, 135, 0, 15, 1_200, 0, 0, 375,
     ],
-    of_second: 1_210,
+    of_second: 1_000,
     premises: Premises {
-        joins: 1_020,
-        currencies: 1_230,
-        beside_three: 480,
-        dearer: 90,
+        joins: 1_350,
+        currencies: 1_100,
+        beside_three: 430,
+        dearer: 170,
     },
     floating: Floating {
-        accepted: 1_850,
-        joined: 650,
-        places: [170, 100, 85],
-        ways: [75, 80, 75],
-        elsewhere: 190,
+        accepted: 1_650,
+        joined: 530,
+        places: [110, 66, 58],
+        ways: [50, 53, 49],
+        elsewhere: 155,
     },
     tables: Tables {
-        amendment: 1_350,
-        others: 3_900,
-        charged: 1_800,
-        refused: [330, 840],
-        ways: [200, 75, 60, 65, 65, 65, 65, 65, 65, 65],
-        before_book: [115, 285],
-        after_group: 125,
+        amendment: 1_300,
+        others: 4_100,
+        charged: 1_950,
+        refused: [315, 830],
+        ways: [185, 60, 63, 66, 64, 65, 66, 64, 67, 65],
+        before_book: [83, 215],
+        after_group: 115,
     },
     small_banks: SmallBanks {
-        charged: 330,
-        unlike_ladder: 640,
+        charged: 355,
+        unlike_ladder: 615,
         refused: [
-            0, 45, 115, 500, 80, 155, 54, 87, 75, 38, 0, 0, 0, 0, 0, 0, 0, 0, 0, 0, 3_900,
+            0, 35, 89, 375, 55, 110, 38, 58, 59, 25, 0, 0, 0, 0, 0, 0, 0, 0, 0, 0, 4_450,
         ],
-        ways: [2_600, 650, 860],
-        before_row: [860, 200],
-        after_contents: [90, 330],
-        joins: 78,
-        cheaper: 20,
+        ways: [2_600, 585, 1_250],
+        before_row: [720, 175],
+        after_contents: [71, 250],
+        joins: 69,
+        cheaper: 17,
+    },
+    nets: Nets {
+        sorts: [410, 60, 340, 100, 35, 11],
+        refused: [
+            0, 35, 89, 375, 200, 270, 110, 145, 190, 84, 0, 0, 1_400, 250, 170, 235,
+        ],
+        fields: [100, 36, 39, 18, 10],
+        orders: [50, 47, 63, 30, 15, 64, 41],
+        rooms: [1_650, 1_250, 555],
+    },
+    net_joins: NetJoins {
+        cheaper: 350,
+        joins: 88,
+        less: 55,
+        dearer: 67,
+        vanished: 11,
     },
 };
 
@@ -151,6 +169,7 @@ mod tests {
         }
         every_table_has_a_minimum();
         every_small_bank_has_a_minimum();
+        every_net_has_a_minimum();
         for number in (1..=9).chain([15]) {
             let lacking = one_short(|tally| &mut tally.refused[number]);
             assert!(lacking[0].starts_with(&format!("books refused {number}: ")));
@@ -226,16 +245,55 @@ mod tests {
         }
     }
 
+    /// The same of netting: of each list every count, and of the refusals those that there are.
+    fn every_net_has_a_minimum() {
+        let alone = |of: &dyn Fn(&mut Tally) -> &mut u64, name: &str| {
+            let lacking = one_short(of);
+            assert_eq!(lacking.len(), 1, "{name}");
+            assert!(lacking[0].contains(name), "{lacking:?}");
+        };
+        for at in 0..LEAST.nets.sorts.len() {
+            alone(&|tally| &mut tally.nets.sorts[at], "books netted with ");
+        }
+        for at in 0..LEAST.nets.fields.len() {
+            alone(&|tally| &mut tally.nets.fields[at], "nets refused 13 for ");
+        }
+        for at in 0..LEAST.nets.orders.len() {
+            alone(&|tally| &mut tally.nets.orders[at], "nets refused, ");
+        }
+        for at in 0..LEAST.nets.rooms.len() {
+            alone(&|tally| &mut tally.nets.rooms[at], "outputs of netting ");
+        }
+        for number in (1..=9).chain(12..=15) {
+            let name = format!("nets refused {number}: ");
+            alone(&|tally| &mut tally.nets.refused[number], &name);
+        }
+        alone(&|tally| &mut tally.net_joins.cheaper, "cheaper when netted");
+        alone(
+            &|tally| &mut tally.net_joins.joins,
+            "under the zone premise",
+        );
+        alone(&|tally| &mut tally.net_joins.less, "than their parts");
+        alone(&|tally| &mut tally.net_joins.dearer, "with three zones");
+        alone(&|tally| &mut tally.net_joins.vanished, "netted away");
+    }
+
     /// Catches minimums that do not follow the count of the run.
     #[test]
     fn minimums_follow_the_count() {
         let nothing = Tally::default();
-        assert_eq!(nothing.lacking(20_000).len(), 12 + 9 + 18 + 10 + 12 + 21);
+        assert_eq!(
+            nothing.lacking(20_000).len(),
+            12 + 9 + 18 + 10 + 12 + 21 + 39
+        );
         assert!(LEAST.lacking(20_100).len() > 10);
         let half = nothing.lacking(10_000);
-        assert!(half.contains(&"joins refused 11: 0 where at least 10 are wanted".to_string()));
+        assert!(half.contains(&"nets refused 14: 0 where at least 85 are wanted".to_string()));
         // Few cases may miss the rarest, and very few may miss anything.
-        assert_eq!(nothing.lacking(9_999).len(), 12 + 9 + 18 + 10 + 11 + 20);
-        assert_eq!(nothing.lacking(51), [""; 0]);
+        assert_eq!(
+            nothing.lacking(9_999).len(),
+            12 + 9 + 18 + 10 + 11 + 20 + 34
+        );
+        assert_eq!(nothing.lacking(41), [""; 0]);
     }
 }

@@ -7,6 +7,7 @@ mod e4;
 #[cfg(test)]
 mod faulty;
 mod floating;
+mod issues;
 mod ladders;
 mod laws;
 mod least;
@@ -15,9 +16,17 @@ mod mended;
 #[cfg(test)]
 mod misread;
 #[cfg(test)]
+mod misread_net;
+#[cfg(test)]
 mod misread_small;
 #[cfg(test)]
 mod misread_tables;
+mod net_joins;
+mod net_laws;
+#[cfg(test)]
+mod net_readings;
+mod net_sorts;
+mod nets;
 mod premises;
 mod run;
 mod shown;
@@ -34,6 +43,8 @@ mod tests;
 #[cfg(test)]
 mod wrong_ladders;
 #[cfg(test)]
+mod wrong_net;
+#[cfg(test)]
 mod wrong_small;
 #[cfg(test)]
 mod wrong_tables;
@@ -48,7 +59,7 @@ pub const COMMAND: Command = Command {
     help: "market-risk compare [--seed S] [--count N] [--first K]
 
 Makes N pairs of random and damaged books from seed S and holds the proved library to
-the second calculation: all seven calls, every entry of every result and every byte of
+the second calculation: all eight calls, every entry of every result and every byte of
 every output. Each pair has one table: document 01's, another that is accepted, or one that
 is refused. Demand 3 is sampled too: a reordered, mirrored, or reordered and mirrored book
 has the same report; a joined book takes as many rows as its two parts and, with at most
@@ -58,7 +69,10 @@ a currency that itself uses at most two zones in a joined book costs at most wha
 in the two, whatever the other currencies use. And every ladder that is accepted adds up,
 in the lines that `ladder` shows, which hold the library's figures to the rows. Books of
 foreign exchange and commodities alone cost the same reordered and mirrored, and joined at
-most what they cost apart, in each figure of the small bank and whatever they hold.
+most what they cost apart, in each figure of the small bank and whatever they hold. A netted
+book is accepted, stays as it is when it is netted again, and costs at most what the book costs;
+and with at most two zones used in each currency before netting, a netted join costs at most its
+two netted books together. In every fourth pair rows share issue numbers.
 
 On a difference it prints the smallest books that it can find, in hex and as CSV, with the
 table next to document 01's, and stops with exit status 1. It also fails when the pairs
@@ -70,7 +84,10 @@ floating-rate notes, accepted, joined, and refused in each way and place, tables
 01's, others with interest rows, of a wrong length, with each condition broken alone, and
 refused before bad books and after groups, and small banks, charged, charged otherwise than
 by the ladder, joined, joined for less, and refused with each number, with 20 in each way,
-before bad rows and after 2 and 3, must come up in proportion to N.
+before bad rows and after 2 and 3, and netted books, of each sort of issue, into outputs that are
+just long enough, longer and one byte short, refused with each number, with 13 for each field,
+with 13 and 14 in each order, cheaper netted, joined and netted under the premise and without
+it, must come up in proportion to N.
 
   --seed S    the seed, 1 if not given
   --count N   how many pairs, 20000 if not given

@@ -29,13 +29,16 @@ fn show_table(bytes: &[u8]) -> String {
 
 impl fmt::Display for Case {
     fn fmt(&self, out: &mut fmt::Formatter) -> fmt::Result {
-        let Case { group, room, .. } = self;
+        let (group, room, net_room) = (self.group, self.room, self.net_room);
         let (a, b, table) = (
             show("A", &self.a),
             show("B", &self.b),
             show_table(&self.table),
         );
-        write!(out, "group {group}, output of {room} bytes\n{table}{a}{b}")
+        write!(
+            out,
+            "group {group}, outputs of {room} bytes to join and {net_room} to net\n{table}{a}{b}"
+        )
     }
 }
 

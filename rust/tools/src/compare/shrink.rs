@@ -7,12 +7,22 @@ use super::table_cuts::nearer;
 /// How many cuts are tried at most: full books that cannot be cut have very many.
 const MOST_TRIES: usize = 10_000;
 
-/// The smaller cases next to a case. The output keeps its distance from the joined length.
+/// The output of netting for a first book cut to another: it keeps its distance from what is
+/// written, if anything is.
+fn net_room(case: &Case, cut: &[u8]) -> usize {
+    match (second::netted(&case.a), second::netted(cut)) {
+        (Ok(whole), Ok(cut)) => (case.net_room + cut.len()).saturating_sub(whole.len()),
+        _ => case.net_room,
+    }
+}
+
+/// The smaller cases next to a case. The outputs keep their distance from what is written.
 fn smaller(case: &Case) -> impl Iterator<Item = Case> + '_ {
     let with = |a: Vec<u8>, b: Vec<u8>| {
         let less = (case.a.len() + case.b.len()).saturating_sub(a.len() + b.len());
         let room = case.room.saturating_sub(less);
         Case {
+            net_room: net_room(case, &a),
             a,
             b,
             room,
@@ -32,7 +42,17 @@ fn smaller(case: &Case) -> impl Iterator<Item = Case> + '_ {
         b: in_one_group(&case.b),
         ..plain(0, case.room)
     };
-    let numbers = [plain(0, case.room), plain(case.group, 0), one_group].into_iter();
+    let no_room = Case {
+        net_room: 0,
+        ..case.clone()
+    };
+    let numbers = [
+        plain(0, case.room),
+        plain(case.group, 0),
+        no_room,
+        one_group,
+    ]
+    .into_iter();
     let numbers = numbers.filter(move |plain| plain != case);
     let of_table = nearer(&case.table).map(|table| Case {
         table,
@@ -82,6 +102,7 @@ mod tests {
             table: vec![7; 36],
             group: 9,
             room: 500,
+            net_room: 500,
             order: 1,
         }
     }
@@ -99,7 +120,7 @@ mod tests {
         assert_eq!(book.rows(), 2);
         assert_eq!(book.classes[3], [plain; 2]);
         let left = (smallest.b.len(), smallest.group, smallest.room);
-        assert_eq!(left, (0, 0, 0));
+        assert_eq!((left, smallest.net_room), ((0, 0, 0), 0));
         assert_eq!(smallest.table, second::table());
     }
 

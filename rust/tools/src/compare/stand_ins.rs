@@ -7,7 +7,7 @@ use crate::calls::{Calls, Proved, Second};
 use crate::cli::{Args, Failure};
 use books::Book;
 
-/// The seven calls.
+/// The eight calls.
 #[derive(Clone, Copy, Debug, PartialEq)]
 enum Call {
     Check,
@@ -16,16 +16,18 @@ enum Call {
     CommodityLadder,
     SmallBank,
     Join,
+    Net,
     Table,
 }
 
-const CALLS: [Call; 7] = [
+const CALLS: [Call; 8] = [
     Call::Check,
     Call::Charge,
     Call::InterestLadder,
     Call::CommodityLadder,
     Call::SmallBank,
     Call::Join,
+    Call::Net,
     Call::Table,
 ];
 
@@ -70,6 +72,13 @@ impl Calls for StandIn<'_> {
     fn join(&self, a: &[u8], b: &[u8], out: &mut [u8], result: &mut [u64; 4]) {
         match (self.without.contains(&Call::Join), self.zeros) {
             (false, _) => Second.join(a, b, out, result),
+            (true, true) => result.fill(0),
+            (true, false) => (),
+        }
+    }
+    fn net(&self, book: &[u8], out: &mut [u8], result: &mut [u64; 4]) {
+        match (self.without.contains(&Call::Net), self.zeros) {
+            (false, _) => Second.net(book, out, result),
             (true, true) => result.fill(0),
             (true, false) => (),
         }
@@ -148,23 +157,27 @@ fn a_run_that_has_seen_too_little_fails() {
         table: second::table().to_vec(),
         group: 0,
         room: 8,
+        net_room: 8,
         order: 0,
     };
     let message = failure(&empty);
     assert!(message.starts_with("20000 pairs have shown too little\n"));
-    assert!(message.contains("\nbooks refused 9: 0 where at least 110 are wanted\n"));
+    assert!(message.contains("\nbooks refused 9: 0 where at least 84 are wanted\n"));
     assert!(message.contains("\nbooks accepted with rows: 0 where"));
     assert!(message.contains("\nbooks refused after their first row: 0 where"));
     assert!(message.contains("\ncurrencies joined under their zone premise: 0 where"));
     assert!(message.contains("\nbooks accepted with floating rates: 0 where"));
-    assert!(message.contains("\nbooks refused 15: 0 where at least 355 are wanted\n"));
+    assert!(message.contains("\nbooks refused 15: 0 where at least 235 are wanted\n"));
     assert!(message.contains("\nother tables accepted: 0 where"));
     assert!(message.contains("\nsmall banks charged: 0 where"));
-    assert!(message.contains("\nsmall banks refused 20: 0 where at least 3900 are wanted\n"));
+    assert!(message.contains("\nsmall banks refused 20: 0 where at least 4450 are wanted\n"));
+    assert!(message.contains("\nbooks netted with a sum that comes back: 0 where"));
+    assert!(message.contains("\nnets refused 13: 0 where at least 250 are wanted\n"));
+    assert!(message.contains("\nnetted joins under the zone premise: 0 where"));
     assert!(message.contains("\ntables refused 18: 0 where"));
     assert!(message.contains("\ntables refused for 1-3 above 100 alone: 0 where"));
     assert!(!message.contains("books accepted: "), "{message}");
-    empty.count = 50;
+    empty.count = 40;
     assert!(empty.outcome().is_ok());
 }
 
@@ -224,6 +237,22 @@ fn without_small_banks(seed: u64, number: u64) -> Case {
     wanted.expect("most cases have interest or equity rows")
 }
 
+/// A case of a seed with every row of its own issue, as far as numbers go.
+fn without_issues(seed: u64, number: u64) -> Case {
+    let alone = |bytes: Vec<u8>, first: u16| {
+        let mut book = Book::decode(&bytes)?;
+        let rows = book.classes.iter_mut().flatten();
+        rows.zip(first..).for_each(|(row, issue)| row.issue = issue);
+        book.encode()
+    };
+    let case = Case::new(seed, number);
+    Case {
+        a: alone(case.a.clone(), 1).unwrap_or(case.a),
+        b: alone(case.b.clone(), 10_001).unwrap_or(case.b),
+        ..case
+    }
+}
+
 /// What a run of 4,000 cases of a kind lacks.
 fn lacking(cases: fn(u64, u64) -> Case) -> Vec<String> {
     let none = StandIn {
@@ -242,9 +271,10 @@ fn lacking(cases: fn(u64, u64) -> Case) -> Vec<String> {
 #[test]
 fn a_run_without_three_zones_fails() {
     let expected = [
-        "interest ladders with three zones: 0 where at least 56 are wanted",
-        "currencies joined beside one with three zones: 0 where at least 96 are wanted",
-        "currencies dearer when joined: 0 where at least 18 are wanted",
+        "interest ladders with three zones: 0 where at least 35 are wanted",
+        "currencies joined beside one with three zones: 0 where at least 86 are wanted",
+        "currencies dearer when joined: 0 where at least 34 are wanted",
+        "netted joins dearer with three zones: 0 where at least 13 are wanted",
     ];
     assert_eq!(lacking(without_three), expected);
 }
@@ -252,7 +282,7 @@ fn a_run_without_three_zones_fails() {
 /// Catches a run whose commodity ladders add up because nothing is carried.
 #[test]
 fn a_run_without_amounts_carried_fails() {
-    let expected = ["commodity ladders with amounts carried: 0 where at least 152 are wanted"];
+    let expected = ["commodity ladders with amounts carried: 0 where at least 139 are wanted"];
     assert_eq!(lacking(without_carried), expected);
 }
 
@@ -279,7 +309,7 @@ fn a_run_without_small_banks_fails() {
     let about_banks = |line: &String| line.starts_with("small banks ");
     assert!(lacking.iter().all(about_banks), "{lacking:?}");
     assert!(lacking.iter().all(|line| line.contains(": 0 where")));
-    assert_eq!(lacking.len(), 8, "{lacking:?}");
+    assert_eq!(lacking.len(), 7, "{lacking:?}");
 }
 
 /// Catches a run that has seen no table but document 01's, and so nothing of what is loaded.
@@ -292,4 +322,16 @@ fn a_run_under_document_01_s_table_alone_fails() {
     );
     assert!(lacking.iter().all(|line| line.contains(": 0 where")));
     assert_eq!(lacking.len(), 17, "{lacking:?}");
+}
+
+/// Catches a run in which no two rows share an issue: nothing was netted, and nothing was refused
+/// for its issues.
+#[test]
+fn a_run_without_issues_fails() {
+    let lacking = lacking(without_issues);
+    let none = lacking.iter().filter(|line| line.contains(": 0 where"));
+    assert_eq!(none.count(), lacking.len(), "{lacking:?}");
+    let about = |line: &&String| line.contains("net");
+    assert_eq!(lacking.iter().filter(about).count(), 13, "{lacking:?}");
+    assert_eq!(lacking.len(), 13, "{lacking:?}");
 }

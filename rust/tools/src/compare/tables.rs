@@ -156,6 +156,7 @@ mod tests {
             table: table.to_vec(),
             group,
             room: 0,
+            net_room: 0,
             order: 0,
         });
         let named = tables.named();

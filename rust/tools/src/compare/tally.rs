@@ -2,6 +2,8 @@
 
 use super::case::Case;
 use super::floating::Floating;
+use super::net_joins::NetJoins;
+use super::nets::Nets;
 use super::premises::Premises;
 use super::small_banks::SmallBanks;
 use super::tables::Tables;
@@ -30,6 +32,9 @@ pub struct Tally {
     pub floating: Floating,
     pub tables: Tables,
     pub small_banks: SmallBanks,
+    pub nets: Nets,
+    /// Of books and joins under an accepted table.
+    pub net_joins: NetJoins,
 }
 
 impl Tally {
@@ -44,9 +49,13 @@ impl Tally {
         self.after_first += u64::from(refusal.row > 0);
         self.floating.count(&case.a, &refusal);
         self.small_banks.count(&case.a, &refusal);
+        self.nets.count(case);
         self.ladder_refused += u64::from(case.group > 31);
         self.tables.count(case);
         let charged = second::read_table(&case.table).is_ok();
+        if charged {
+            self.net_joins.count(&case.a, &case.table);
+        }
         let zones = second::zones_used(&case.a, case.group);
         self.three_zones += u64::from(charged && zones == [true; 3]);
         let carried = second::commodity_ladder(&case.a, case.group).carried;
@@ -61,6 +70,8 @@ impl Tally {
             self.small_banks.count_join([&case.a, &case.b, &out]);
             if charged {
                 self.premises.count([&case.a, &case.b, &out], &case.table);
+                self.net_joins
+                    .count_join([&case.a, &case.b, &out], &case.table);
             }
         }
     }
@@ -92,6 +103,8 @@ impl Tally {
         counts.extend(self.floating.named());
         counts.extend(self.tables.named());
         counts.extend(self.small_banks.named());
+        counts.extend(self.nets.named());
+        counts.extend(self.net_joins.named());
         counts.extend(numbered("books refused", &self.refused));
         counts.extend(numbered("joins refused", &self.joins));
         counts
@@ -124,6 +137,8 @@ impl fmt::Display for Tally {
         writeln!(out, "{}", self.floating)?;
         writeln!(out, "{}", self.tables)?;
         writeln!(out, "{}", self.small_banks)?;
+        writeln!(out, "{}", self.nets)?;
+        writeln!(out, "{}", self.net_joins)?;
         writeln!(
             out,
             "joins refused {not_joined}, for the second book {}",
@@ -157,6 +172,7 @@ mod tests {
             table: table.to_vec(),
             group: 7,
             room: 1_000,
+            net_room: 1_000,
             order: 0,
         });
         tally

@@ -156,7 +156,7 @@ fn a_difference_is_shown_with_a_small_book() {
         "pair {number} of seed 1 differs\ncommodity ladder by a faulty calculation and by "
     )));
     assert!(
-        text.contains("group 0, output of 0 bytes\ndocument 01's table\nbook A, 24 bytes: "),
+        text.contains(" bytes to join and 0 to net\ndocument 01's table\nbook A, 24 bytes: "),
         "{text}"
     );
     assert!(text.contains("\ncommodity,0,none,0,0,0,"), "{text}");
@@ -225,6 +225,7 @@ fn case(a: &[Row], b: &[Row]) -> Case {
         table: second::table().to_vec(),
         group: 0,
         room: 1_000,
+        net_room: 1_000,
         order: 0,
     }
 }

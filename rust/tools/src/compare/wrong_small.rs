@@ -6,7 +6,7 @@ use super::run::Run;
 use super::{check, laws};
 use crate::calls::Second;
 
-/// How a run of 1,000 cases fails with a wrong reading, which it must.
+/// How a run of 8,000 cases fails with a wrong reading, which it must.
 fn told(wrong: Wrong) -> String {
     let library = Misread {
         name: "a wrong reading",
@@ -18,7 +18,7 @@ fn told(wrong: Wrong) -> String {
         cases: Case::new,
         seed: 1,
         first: 0,
-        count: 1_000,
+        count: 8_000,
     };
     let Err(failure) = run.outcome() else {
         panic!("{wrong:?} is not found");

@@ -1,5 +1,6 @@
 //! A refusal in words.
 
+use super::issues::{differing, over};
 use crate::text::whole;
 use books::names::{floating, kind_name, kinds, CLASS_NAMES};
 use books::{Book, Row};
@@ -24,7 +25,7 @@ fn allowed(number: u64, class: usize) -> String {
 }
 
 /// What the fields `days` and `coupon` of a row are.
-fn terms(class: usize, kind: u8) -> [&'static str; 2] {
+pub fn terms(class: usize, kind: u8) -> [&'static str; 2] {
     match floating(class, kind) {
         true => ["days to fixing", "final maturity"],
         false => ["days", "coupon"],
@@ -32,7 +33,7 @@ fn terms(class: usize, kind: u8) -> [&'static str; 2] {
 }
 
 /// The fields of a row in words.
-fn fields(class: usize, row: &Row) -> String {
+pub fn fields(class: usize, row: &Row) -> String {
     let [days, coupon] = terms(class, row.kind);
     format!(
         "{} row: group {}, kind {}, {days} {}, {coupon} {}, issue {}, long {}, short {}",
@@ -58,8 +59,8 @@ fn counts(bytes: &[u8]) -> [String; 4] {
 /// A refusal explained, with its row's fields.
 pub fn explain(bytes: &[u8], refusal: &Refusal) -> String {
     let length = whole(bytes.len() as u64);
-    let row = || Book::decode(bytes)?.row(refusal.row as usize);
-    let more = match (refusal.number, row()) {
+    let book = Book::decode(bytes).unwrap_or_default();
+    let more = match (refusal.number, book.row(refusal.row as usize)) {
         (1, _) => format!("the file has {length} bytes"),
         (2 | 3, _) => format!(
             "the file has {length} bytes and counts {} rows",
@@ -72,6 +73,8 @@ pub fn explain(bytes: &[u8], refusal: &Refusal) -> String {
         (number @ (4..=9 | 15), Some((class, row))) => {
             format!("{}; {}", fields(class, &row), allowed(number, class))
         }
+        (13, Some((class, row))) => differing(&book, class, &row),
+        (14, Some((class, row))) => over(&book, class, &row),
         _ => return refusal.to_string(),
     };
     format!("{refusal}\n{more}")

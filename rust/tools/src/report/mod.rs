@@ -3,6 +3,7 @@
 mod currencies;
 mod doubt;
 mod explain;
+mod issues;
 
 use crate::cli::{no, Args, Command, Outcome};
 use crate::files::{input, print, read_book};
@@ -12,7 +13,7 @@ use books::Book;
 use doubt::doubt;
 use market_risk::Report;
 
-pub use explain::explain;
+pub use explain::{explain, fields};
 
 pub const COMMAND: Command = Command {
     name: "report",

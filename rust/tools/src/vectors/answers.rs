@@ -3,7 +3,7 @@
 use super::build::{Call, Case};
 use crate::calls::{Calls, Second};
 
-/// What every byte of an output is before a join.
+/// What every byte of an output is before a join or netting.
 const FILL: u8 = 0xa5;
 
 /// A checksum of an output, small enough at every step for 64 bits.
@@ -51,6 +51,11 @@ fn answer(by: &dyn Calls, case: &Case) -> (&'static str, Vec<u64>) {
             by.join(book, other, &mut out, &mut result);
             ("join", [&result[..], &[checksum(&out)]].concat())
         }
+        Call::Net { room } => {
+            let mut out = vec![FILL; *room as usize];
+            by.net(book, &mut out, &mut result);
+            ("net", [&result[..], &[checksum(&out)]].concat())
+        }
         Call::SmallBank => {
             by.small_bank(book, &mut small_bank);
             ("small-bank", small_bank.to_vec())
@@ -80,7 +85,7 @@ fn lines_by(by: &dyn Calls, cases: &[Case]) -> String {
 
 #[cfg(test)]
 mod tests {
-    use super::super::build::{call, charge_by, join, ladder_by, row, small_bank};
+    use super::super::build::{call, charge_by, join, ladder_by, net, row, small_bank};
     use super::*;
     use crate::calls::Proved;
 
@@ -122,7 +127,10 @@ mod tests {
             call(Call::Table, &[]),
             small_bank(&book),
             small_bank(&super::super::build::only(3, &[row(3, 0, 90, 0, -2)])),
+            net(&[0; 8], 8),
+            net(&[0; 8], 7),
         ];
+        let left = checksum(&[0xa5; 7]);
         let (sum, lists) = (checksum(&[0; 8]), " 0".repeat(64));
         let expected = format!(
             "check 1 0 0\n\
@@ -136,7 +144,9 @@ mod tests {
              table 0 0 20 0 40 0 70 0 125 0 175 0 225 0 19 1 69 1 119 1 194 1 13 2 88 2 32 3 226 4 \
              10 40 30 30 40 100\n\
              small-bank 20 0 0 0 0 0\n\
-             small-bank 0 0 0 0 360000 360000\n"
+             small-bank 0 0 0 0 360000 360000\n\
+             net 0 0 0 8 {sum}\n\
+             net 12 0 0 0 {left}\n"
         );
         assert_eq!(lines(&cases), expected);
     }

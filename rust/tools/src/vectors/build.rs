@@ -15,6 +15,7 @@ pub enum Call {
     InterestLadderBy { table: Vec<u8>, group: u16 },
     Table,
     SmallBank,
+    Net { room: u32 },
 }
 
 /// One stored call.
@@ -49,9 +50,20 @@ pub fn ladder_by(table: &[u8], group: u16, book: &[u8]) -> Case {
     call(Call::InterestLadderBy { table, group }, book)
 }
 
+/// The length of an output.
+fn length(room: usize) -> u32 {
+    u32::try_from(room).expect("an output of at most 65,536 bytes")
+}
+
+/// Netting with so much room.
+pub fn net(book: &[u8], room: usize) -> Case {
+    let room = length(room);
+    call(Call::Net { room }, book)
+}
+
 /// A join with so much room.
 pub fn join(a: &[u8], b: &[u8], room: usize) -> Case {
-    let room = u32::try_from(room).expect("an output of at most 65,536 bytes");
+    let room = length(room);
     call(
         Call::Join {
             other: b.to_vec(),

@@ -10,6 +10,8 @@ mod full;
 mod joins;
 mod ladders;
 mod loaded;
+mod net_faults;
+mod nets;
 #[cfg(test)]
 mod page;
 mod random;
@@ -58,6 +60,8 @@ fn cases(seed: u64) -> Vec<Case> {
         loaded::cases(seed),
         small_banks::cases(seed),
         small_faults::cases(),
+        nets::cases(seed),
+        net_faults::cases(),
     ]
     .concat()
 }
@@ -114,7 +118,7 @@ mod tests {
         }));
         assert!(books.len() >= 300, "{} books", books.len());
         let [(_, stdin), (_, stdout)] = files(1);
-        assert!(stdin.len() < 360_000, "{} bytes", stdin.len());
+        assert!(stdin.len() < 410_000, "{} bytes", stdin.len());
         assert!(stdout.len() < 300_000, "{} bytes", stdout.len());
     }
 
@@ -147,6 +151,10 @@ mod tests {
             assert!(seen("small-bank", number), "small-bank {number}");
         }
         assert!(!seen("small-bank", 15));
+        for number in (0..=9).chain(12..=15) {
+            assert!(seen("net", number), "net {number}");
+        }
+        assert!(!seen("net", 10) && !seen("net", 11));
     }
 
     #[test]

@@ -59,6 +59,10 @@ impl Reader<'_> {
             let room = room as u32;
             return Some(call(Call::Join { other, room }, &book));
         }
+        if tag == 10 {
+            let (room, length) = (self.number(4) as u32, self.number(4));
+            return Some(call(Call::Net { room }, &self.book(length, runs)));
+        }
         let table = match tag {
             6 | 7 => self.table(),
             _ => vec![],
@@ -145,6 +149,10 @@ fn the_page_states_the_sizes_of_what_is_stored() {
         format!(
             "- {} random pairs of such books of the seed",
             super::small_banks::PAIRS
+        ),
+        format!(
+            "- {} random books of the seed whose rows share issues",
+            super::nets::BOOKS
         ),
     ] {
         assert_eq!(page.matches(&random).count(), 1, "{random}");

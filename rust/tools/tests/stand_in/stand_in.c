@@ -2,8 +2,8 @@
  * A call that is taken out writes zeros and no output. STAND_IN may also name a wrong count
  * of the rows taken by a charge, a fault of its lists of the currencies, a ladder that does not
  * add up, a wrong reading of floating-rate notes, or a table that is not heeded, is accepted
- * against its conditions or is tried out of its order. The small bank's call is in small_bank.c.
- * The archive's own calls have other names here, proved_check and so on. */
+ * against its conditions or is tried out of its order. The small bank's call is in small_bank.c,
+ * netting in net.c. The archive's own calls have other names here, proved_check and so on. */
 #include "faults.h"
 
 void proved_check(const uint8_t *book, size_t len, uint64_t *out);

@@ -8,14 +8,15 @@ use std::process::{Command, Output};
 use std::sync::OnceLock;
 use std::{env, fs};
 
-/// The seven calls, as the C interface names them.
-pub const CALLS: [&str; 7] = [
+/// The eight calls, as the C interface names them.
+pub const CALLS: [&str; 8] = [
     "check",
     "charge",
     "interest_ladder",
     "commodity_ladder",
     "small_bank",
     "join",
+    "net",
     "table",
 ];
 
@@ -33,7 +34,7 @@ fn build(command: &mut Command) {
 }
 
 /// The files of the stand-in.
-const SOURCES: [&str; 2] = ["stand_in", "small_bank"];
+const SOURCES: [&str; 3] = ["stand_in", "small_bank", "net"];
 
 /// Compiles a file of the stand-in into a folder and gives the object.
 fn object(folder: &str, name: &str) -> String {
@@ -108,7 +109,12 @@ pub fn fails(fault: &str, words: &[&str]) -> String {
 
 /// What the command says of a call, its first line on it.
 pub fn told_of(call: &str, fault: &str) -> String {
-    let error = fails(fault, &["compare", "--seed", "1", "--count", "300"]);
+    told_within("300", call, fault)
+}
+
+/// The same within so many cases.
+pub fn told_within(count: &str, call: &str, fault: &str) -> String {
+    let error = fails(fault, &["compare", "--seed", "1", "--count", count]);
     let mut lines = error.lines();
     let told = lines.find(|line| line.starts_with(call));
     told.unwrap_or_else(|| panic!("{fault}: {error}"))

@@ -1,0 +1,1 @@
+// Rows of one issue, netted: definitions in specs/ and laws in proofs/.

@@ -1,0 +1,5 @@
+-- What only inner functions promise.
+pub mod Places
+pub mod Gathering
+pub mod Nets
+pub mod Writing

@@ -1,0 +1,98 @@
+// Nets the issues of a book into an output that the caller lends.
+mod firsts;
+mod gathering;
+mod nets;
+mod writing;
+
+use book::CONTENTS_SIZE;
+use book::Counts;
+use book::MOST_ROWS;
+use book::ROW_SIZE;
+use book::Refusal;
+ghost use mathlib.Core.Path.{_≡_};
+ghost use lib.ListN.{length as len, replicate};
+ghost use Rattle.book.specs.Counts.{countsOf};
+ghost use Rattle.book.specs.Refusals.{mostRows};
+ghost use Rattle.book.specs.Accepted.{Accepted};
+ghost use Rattle.netting.specs.Netted.{nettedOf, nettingOutput};
+ghost use Rattle.netting.specs.Inner.Nets.{Settled};
+ghost use Rattle.netting.specs.Inner.Writing.{CanBeWritten, refusedNetting};
+
+// Why netting is refused, all zero where it is not, and the length of the netted book, 0 where it is refused.
+pub struct Netted {
+    pub refusal: Refusal,
+    pub length: usize,
+}
+
+// Writes the netted book at the start of out; bytes past it keep their values, and all do where netting is refused.
+pub fn net(book: &[u8], out: &mut [u8]) -> Netted
+    ensures { λ r. ⌜ (r ≡ nettedOf (now (book .entry)) (len (now (out .entry)))) × (now (out .exit) ≡ nettingOutput (now (book .entry)) (now (out .entry))) ⌝ }
+{
+    let checked = book::read(book);
+    if checked.refusal.number != 0 {
+        return refused(checked.refusal);
+    }
+    net_accepted(book, checked.counts, out)
+}
+
+// Nets an accepted book: 13, 14 and 12 are tried before a byte is written.
+fn net_accepted(book: &[u8], counts: Counts, out: &mut [u8]) -> Netted
+    requires { ⌜ (counts ≡ countsOf (now book)) × Accepted (now book) ⌝ }
+    ensures { λ r. ⌜ (r ≡ nettedOf (now (book .entry)) (len (now (out .entry)))) × (now (out .exit) ≡ nettingOutput (now (book .entry)) (now (out .entry))) ⌝ }
+{
+    let mut longs = [0u64; MOST_ROWS];
+    let mut shorts = [0u64; MOST_ROWS];
+    let refusal = settle(book, counts, &mut longs, &mut shorts);
+    if refusal.number != 0 {
+        return refused(refusal);
+    }
+    write_netted(book, counts, &longs, &shorts, out)
+}
+
+// The sums of an accepted book's issues in tables of zeros: 13 over the whole book, then 14; all zero where neither applies.
+fn settle(
+    book: &[u8],
+    counts: Counts,
+    longs: &mut [u64; MOST_ROWS],
+    shorts: &mut [u64; MOST_ROWS],
+) -> Refusal
+    requires { ⌜ (counts ≡ countsOf (now book)) × Accepted (now book) × (now longs ≡ replicate mostRows 0) × (now shorts ≡ replicate mostRows 0) ⌝ }
+    ensures { λ r. ⌜ Settled (now (book .entry)) r (now (longs .exit)) (now (shorts .exit)) ⌝ }
+{
+    let differing = gathering::gather_book(book, counts, longs, shorts);
+    if differing.number != 0 {
+        return differing;
+    }
+    nets::first_over(longs, shorts, counts.rows())
+}
+
+// Writes the netted book by the nets of its issues, unless the output is too short: 12.
+fn write_netted(
+    book: &[u8],
+    counts: Counts,
+    longs: &[u64; MOST_ROWS],
+    shorts: &[u64; MOST_ROWS],
+    out: &mut [u8],
+) -> Netted
+    requires { ⌜ (counts ≡ countsOf (now book)) × CanBeWritten (now book) (now longs) (now shorts) ⌝ }
+    ensures { λ r. ⌜ (r ≡ nettedOf (now (book .entry)) (len (now (out .entry)))) × (now (out .exit) ≡ nettingOutput (now (book .entry)) (now (out .entry))) ⌝ }
+{
+    let left = nets::left_counts(longs, shorts, counts);
+    let length = CONTENTS_SIZE + ROW_SIZE * left.rows();
+    if out.len() < length {
+        return refused(book::refused(12, 0));
+    }
+    layout::contents::write_contents(left, out);
+    writing::write_bodies(book, counts, longs, shorts, out);
+    Netted {
+        refusal: book::refused(0, 0),
+        length,
+    }
+}
+
+// A refusal: nothing is written.
+fn refused(refusal: Refusal) -> Netted
+    ensures { λ r. ⌜ r ≡ refusedNetting refusal ⌝ }
+{
+    Netted { refusal, length: 0 }
+}

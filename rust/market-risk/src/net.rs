@@ -1,0 +1,43 @@
+//! Netting: the rows of one issue become one.
+
+use crate::{raw, Refusal};
+
+/// Writes the netted book to the front of `out` and gives its length. Within a class the rows of
+/// one issue number other than 0 become one, with their net, in the place of the first; an issue
+/// that nets to zero is left out. Bytes past the netted book keep their values; a refused call
+/// writes nothing.
+///
+/// ```
+/// // Currency 7, a government bond of 1,080 days (0x0438), issue 5: long 100 and short 40.
+/// let mut book = vec![2, 0, 0, 0, 0, 0, 0, 0];
+/// book.extend([7, 1, 0x38, 4, 0x20, 3, 5, 0, 100, 0, 0, 0, 0, 0, 0, 0]);
+/// book.extend([7, 1, 0x38, 4, 0x20, 3, 5, 0, 0, 0, 0, 0, 40, 0, 0, 0]);
+/// let mut out = [9; 26];
+/// assert_eq!(market_risk::net(&book, &mut out), Ok(24));
+/// assert_eq!(out[..8], [1, 0, 0, 0, 0, 0, 0, 0]);
+/// assert_eq!(out[8..24], [7, 1, 0x38, 4, 0x20, 3, 5, 0, 60, 0, 0, 0, 0, 0, 0, 0]);
+/// assert_eq!(out[24..], [9, 9]);
+/// // The second row is a day shorter: not the same bond.
+/// book[26] = 0x37;
+/// let refusal = market_risk::net(&book, &mut out).unwrap_err();
+/// assert_eq!((refusal.number, refusal.row), (13, 1));
+/// ```
+pub fn net(book: &[u8], out: &mut [u8]) -> Result<usize, Refusal> {
+    let mut result = [0; 4];
+    raw::net(book, out, &mut result);
+    Refusal::of(&result)?;
+    Ok(result[3] as usize)
+}
+
+/// The netted book, in a buffer of its own.
+///
+/// ```
+/// assert_eq!(market_risk::netted(&[0; 8]), Ok(vec![0; 8]));
+/// ```
+pub fn netted(book: &[u8]) -> Result<Vec<u8>, Refusal> {
+    // A netted book is never longer than the book.
+    let mut out = vec![0; book.len()];
+    let length = net(book, &mut out)?;
+    out.truncate(length);
+    Ok(out)
+}

@@ -1,0 +1,59 @@
+//! Netting with a wrong reading, put in on purpose; all other calls are the second calculation's.
+
+use super::net_readings::Wrong;
+use crate::calls::{Calls, Second};
+
+/// A calculation with a wrong reading.
+pub struct Misread {
+    pub name: &'static str,
+    pub wrong: Wrong,
+}
+
+impl Calls for Misread {
+    fn name(&self) -> &'static str {
+        self.name
+    }
+    fn check(&self, book: &[u8], out: &mut [u64; 3]) {
+        Second.check(book, out);
+    }
+    fn charge(&self, book: &[u8], table: &[u8], out: &mut [u64; 75]) {
+        Second.charge(book, table, out);
+    }
+    fn interest_ladder(&self, book: &[u8], table: &[u8], group: usize, out: &mut [u64; 13]) {
+        Second.interest_ladder(book, table, group, out);
+    }
+    fn commodity_ladder(&self, book: &[u8], group: usize, out: &mut [u64; 7]) {
+        Second.commodity_ladder(book, group, out);
+    }
+    fn small_bank(&self, book: &[u8], out: &mut [u64; 6]) {
+        Second.small_bank(book, out);
+    }
+    fn join(&self, a: &[u8], b: &[u8], out: &mut [u8], result: &mut [u64; 4]) {
+        Second.join(a, b, out, result);
+    }
+    fn net(&self, book: &[u8], out: &mut [u8], result: &mut [u64; 4]) {
+        match self.wrong.net(book, out.len()) {
+            Ok(netted) => {
+                out[..netted.len()].copy_from_slice(&netted);
+                *result = [0, 0, 0, netted.len() as u64];
+                let rest = &mut out[netted.len()..];
+                match self.wrong {
+                    Wrong::Cleared => rest.fill(0),
+                    Wrong::PastTheEnd => rest.iter_mut().take(1).for_each(|byte| *byte ^= 1),
+                    _ => (),
+                }
+            }
+            Err(refused) => {
+                *result = self.wrong.told(book, refused);
+                match self.wrong {
+                    Wrong::LengthKept if refused[0] == 12 => result[3] = book.len() as u64,
+                    Wrong::RefusedWrites => out.iter_mut().take(1).for_each(|byte| *byte ^= 1),
+                    _ => (),
+                }
+            }
+        }
+    }
+    fn table(&self, out: &mut [u8; 36]) {
+        Second.table(out);
+    }
+}

@@ -1,0 +1,129 @@
+//! The netted rows once more, to hold the library's to.
+
+use crate::report::fields;
+use books::names::CLASS_NAMES;
+use books::{Book, Row};
+
+/// The net of the rows of an issue, longs above zero.
+fn net(rows: &[Row], issue: u16) -> i64 {
+    let own = rows.iter().filter(|row| row.issue == issue);
+    own.map(|row| i64::from(row.long) - i64::from(row.short))
+        .sum()
+}
+
+/// The netted rows of a class: of each issue its first row with the net of all, or none.
+fn netted(rows: &[Row]) -> Option<Vec<Row>> {
+    let mut kept = Vec::new();
+    for (at, row) in rows.iter().enumerate() {
+        let seen = rows[..at].iter().any(|before| before.issue == row.issue);
+        if row.issue == 0 {
+            kept.push(*row);
+        } else if !seen {
+            let net = net(rows, row.issue);
+            let amount = u32::try_from(net.unsigned_abs()).ok()?;
+            let sides = if net > 0 { (amount, 0) } else { (0, amount) };
+            kept.extend((net != 0).then_some(row.with_sides(sides.0, sides.1)));
+        }
+    }
+    Some(kept)
+}
+
+/// What of a class is not as it should be.
+fn of_class(class: usize, own: &[Row], expected: &[Row]) -> Option<String> {
+    let name = CLASS_NAMES[class];
+    if let Some(at) = (0..own.len().min(expected.len())).find(|at| own[*at] != expected[*at]) {
+        let [own, expected] = [own[at], expected[at]].map(|row| fields(class, &row));
+        return Some(format!(
+            "netted, {name} row {at} is by the library {own}, by the book {expected}"
+        ));
+    }
+    let (own, expected) = (own.len(), expected.len());
+    (own != expected)
+        .then(|| format!("{name} has {expected} rows netted, the library's book {own}"))
+}
+
+/// Why a book cannot be the netted one of another.
+pub fn doubt(book: &[u8], library: &[u8]) -> Option<String> {
+    let Some((whole, own)) = Book::decode(book).zip(Book::decode(library)) else {
+        return Some("the library's netted book is no book".into());
+    };
+    (0..own.classes.len()).find_map(|class| match netted(&whole.classes[class]) {
+        Some(expected) => of_class(class, &own.classes[class], &expected),
+        None => Some("the library netted an issue that is too large".into()),
+    })
+}
+
+#[cfg(test)]
+mod tests {
+    use super::*;
+
+    /// An equity row of an issue.
+    fn row(issue: u16, long: u32, short: u32) -> Row {
+        let row = Row::default().with_group(3).with_kind(1);
+        row.with_issue(issue).with_sides(long, short)
+    }
+
+    /// The bytes of a book of equity rows.
+    fn book(rows: &[Row]) -> Vec<u8> {
+        let mut book = Book::default();
+        book.classes[1] = rows.to_vec();
+        book.encode().unwrap()
+    }
+
+    /// What is told where a netted book has these rows.
+    fn told(rows: &[Row]) -> Option<String> {
+        let whole = [
+            row(5, 100, 0),
+            row(0, 7, 0),
+            row(9, 1, 0),
+            row(5, 0, 40),
+            row(0, 0, 7),
+            row(9, 0, 1),
+        ];
+        doubt(&book(&whole), &book(rows))
+    }
+
+    const RIGHT: [(u16, u32, u32); 3] = [(5, 60, 0), (0, 7, 0), (0, 0, 7)];
+
+    #[test]
+    fn the_netted_book_is_not_doubted() {
+        let right = RIGHT.map(|(issue, long, short)| row(issue, long, short));
+        assert_eq!(told(&right), None);
+        assert_eq!(doubt(&[0; 8], &[0; 8]), None);
+    }
+
+    /// Catches a wrong amount, side, place or number that is not told.
+    #[test]
+    fn a_wrong_row_is_told() {
+        let wrong = |at: usize, new: Row| {
+            let mut rows = RIGHT.map(|(issue, long, short)| row(issue, long, short));
+            rows[at] = new;
+            told(&rows).unwrap()
+        };
+        let shown = "netted, equity row 0 is by the library equity row: group 3, kind ordinary, \
+                     days 0, coupon 0, issue 5, long 61, short 0, by the book equity row: group 3, \
+                     kind ordinary, days 0, coupon 0, issue 5, long 60, short 0";
+        assert_eq!(wrong(0, row(5, 61, 0)), shown);
+        assert!(wrong(0, row(5, 0, 60)).contains("issue 5, long 0, short 60, by "));
+        assert!(wrong(0, row(0, 7, 0)).starts_with("netted, equity row 0 is "));
+        assert!(wrong(2, row(1, 0, 7)).starts_with("netted, equity row 2 is "));
+    }
+
+    /// Catches rows too many or too few, and what is no book.
+    #[test]
+    fn wrong_counts_are_told() {
+        let mut rows = RIGHT
+            .map(|(issue, long, short)| row(issue, long, short))
+            .to_vec();
+        rows.push(row(9, 0, 0));
+        let many = "equity has 3 rows netted, the library's book 4";
+        assert_eq!(told(&rows), Some(many.into()));
+        let few = "equity has 3 rows netted, the library's book 2";
+        assert_eq!(told(&rows[..2]), Some(few.into()));
+        let none = "the library's netted book is no book";
+        assert_eq!(doubt(&[0; 8], &[0; 9]), Some(none.into()));
+        let large = vec![row(5, u32::MAX, 0); 2];
+        let why = "the library netted an issue that is too large";
+        assert_eq!(doubt(&book(&large), &book(&large)), Some(why.into()));
+    }
+}
