@@ -155,17 +155,19 @@ static void print_small_bank(const char *name, const uint8_t *book, size_t len)
         printf("fx %" PRIu64 "\ncommodity %" PRIu64 "\ntotal %" PRIu64 "\n", out[3], out[4], out[5]);
 }
 
-/* Charges the netted book, which is never longer than the book. */
+/* Charges the netted book, which is never longer than the book, and tells how many comparisons the netting took. */
 static void print_netted(const char *name, const uint8_t book[sizeof bonds])
 {
     uint8_t netted[sizeof bonds];
-    uint64_t result[4];
+    uint64_t result[5];
 
     market_risk_net(book, sizeof bonds, netted, sizeof netted, result);
-    if (result[0] != 0)
+    if (result[0] != 0) {
         printf("%s\nrefused %" PRIu64 " row %" PRIu64 "\n", name, result[0], result[1]);
-    else
-        print_report(name, netted, result[3]);
+        return;
+    }
+    print_report(name, netted, result[3]);
+    printf("comparisons %" PRIu64 "\n", result[4]);
 }
 
 int main(void)

@@ -113,9 +113,15 @@ void market_risk_join(const uint8_t *a, size_t a_len, const uint8_t *b, size_t b
  *     14   an issue whose net is over 1,000,000,000, whatever its rows sum to on the way; the
  *          first row of the earliest such issue is given
  *     12   an output shorter than the netted book
- * result: number, row, book (0); the length of the netted book. */
+ * Comparisons is how often the issue numbers of two rows were compared. In each class, each row
+ * with a number other than 0 is compared with the first rows of the issues seen before it, in
+ * their order, up to the one of its own issue: a row of the first issue that was seen costs 1, of
+ * the second 2, and the first row of an issue as many as there are issues before it. An issue that
+ * nets to zero counts like others. Of a book of n rows it is at most n * (n - 1) / 2, and so much
+ * where all rows are of one class and of different issues. It may change with the order of rows.
+ * result: number, row, book (0); the length of the netted book; comparisons. */
 void market_risk_net(const uint8_t *book, size_t len, uint8_t *out, size_t out_len,
-                     uint64_t result[4]);
+                     uint64_t result[5]);
 
 #ifdef __cplusplus
 }

@@ -13,3 +13,4 @@ pub mod AddingUp
 pub mod WorkedBooks
 pub mod WorkedJoin
 pub mod NettingBooks
+pub mod Comparing

@@ -5,14 +5,15 @@ use mathlib.Core.List.{List, [], _∷_, map}
 use Prim.Native.Nat.{ℕ}
 use Rattle.issues.specs.Issues.{has, placed, nettedFrom}
 use Rattle.issues.specs.Agreeing.{sameTerms, unlikeFirst, differs, overLimit}
+use Rattle.issues.specs.Comparing.{comparedWith, comparisonsFrom}
 use Rattle.layout.specs.Files.{bookOf}
-use Rattle.netting.specs.Netted.{firstFound, foundInClass, orNext, issuesRefusal, roomRefusal, nettedBook, nettingRefusal, nettedOf, nettingOutput}
+use Rattle.netting.specs.Netted.{firstFound, foundInClass, orNext, issuesRefusal, roomRefusal, nettedBook, comparisonsOf, nettingRefusal, nettedOf, nettingOutput}
 use Rattle.claims.specs.Worked.{Worked, costs}
-use Rattle.claims.specs.NettingFacts.{bond, writtenFacts, toldFacts, nearIssue, farIssue, joinedIssue, ableFacts, joinedFacts}
+use Rattle.claims.specs.NettingFacts.{bond, writtenFacts, toldFacts, nearIssue, farIssue, joinedIssue, ableFacts, comparedFacts, joinedFacts}
 use Rattle.claims.proofs.WorkedBooks.{given}
 
 unfoldable pub netted : List Worked → List (List ℕ)
-unfolding given has placed nettedFrom sameTerms unlikeFirst differs overLimit firstFound foundInClass orNext issuesRefusal roomRefusal nettedBook nettingRefusal nettedOf nettingOutput
+unfolding given has placed nettedFrom sameTerms unlikeFirst differs overLimit comparedWith comparisonsFrom comparisonsOf firstFound foundInClass orNext issuesRefusal roomRefusal nettedBook nettingRefusal nettedOf nettingOutput
 netted facts = given facts
 
 pub written-facts : netted writtenFacts ≡ map (λ w. w .expected) writtenFacts
@@ -26,6 +27,10 @@ told-facts = refl
 pub able-facts : netted ableFacts ≡ map (λ w. w .expected) ableFacts
 unfolding netted ableFacts
 able-facts = refl
+
+pub compared-facts : netted comparedFacts ≡ map (λ w. w .expected) comparedFacts
+unfolding netted comparedFacts
+compared-facts = refl
 
 -- ---- E4: each netted book first, and then what it costs
 abbrev farNear : List ℕ

@@ -1,14 +1,16 @@
 -- Netting one issue (P1): which books can be netted, what is written and what it costs, and two books joined and then netted.
-use Prim.Native.Nat.{ℕ}
+use Prim.Native.Nat.{ℕ, _-_, _*_, _/_, _≤_}
 use mathlib.Core.Path.{_≡_}
 use mathlib.Core.List.{List}
 use lib.ListN.{length, take}
 use Rattle.sums.specs.Every.{Every}
 use Rattle.book.specs.Counts.{classes}
+use Rattle.book.specs.Legs.{legsOf}
 use Rattle.book.specs.Refusals.{refused, refusalOf}
 use Rattle.book.specs.Accepted.{Accepted}
 use Rattle.issues.specs.Issues.{nettedRows}
 use Rattle.issues.specs.Agreeing.{CanBeNetted}
+use Rattle.issues.specs.Comparing.{Different}
 use Rattle.table.specs.Loaded.{tableRefusal}
 use Rattle.charges.specs.Report.{classRows, reportOf}
 use Rattle.join.specs.Joined.{joinRefusal}
@@ -44,6 +46,17 @@ pub record Netting (table s out : List ℕ) : Type 0 where
 -- for every book and every output that netting accepts, and every accepted table
 abbrev pub NettingHolds : Type 0
 NettingHolds = (table : List ℕ) → tableRefusal table ≡ 0 → (s out : List ℕ) → nettingRefusal s (length out) .number ≡ 0 → Netting table s out
+
+-- ---- how many comparisons (P7): of the n rows of a book at most n(n - 1)/2, for every book and every output
+abbrev pub ComparingHolds : Type 0
+ComparingHolds = (s : List ℕ) (room : ℕ) → nettedOf s room .comparisons ≤ length (legsOf s) * (length (legsOf s) - 1) / 2
+
+-- and it is reached, by every book that is netted whose rows are all of one class and of different issues
+abbrev pub ReachingHolds : Type 0
+ReachingHolds =
+    (s : List ℕ) (room : ℕ) → nettingRefusal s room .number ≡ 0 → (class : ℕ) → 1 ≤ class → class ≤ 4
+    → length (classRows s class) ≡ length (legsOf s) → Different (classRows s class)
+    → nettedOf s room .comparisons ≡ length (legsOf s) * (length (legsOf s) - 1) / 2
 
 -- ---- two books joined and then netted: where they and the joined book can all be netted, and the joined book uses at most two zones in each currency
 -- before it is netted, each figure is at most those of the two netted books together

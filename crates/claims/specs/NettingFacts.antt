@@ -100,3 +100,23 @@ toldFacts =
     ∷ nets (bond 900 7 1000000000 0 ∷ bond 900 7 1000000000 0 ∷ bond 900 7 0 1000000000 ∷ []) (bond 900 7 1000000000 0 ∷ [])
     ∷ tells (bond 900 7 1 0 ∷ bond 901 7 1 0 ∷ issued 4 0 0 36001 0 0 1 0 ∷ []) 6 2
     ∷ []
+
+-- ---- how many comparisons (P7)
+abbrev pub compares : List Leg → ℕ → Worked
+compares legs number = record { given = nettedOf (bookOf legs) 1000 .comparisons ∷ []; expected = number ∷ [] }
+
+-- five different issues in one class reach the bound, 5 × 4 / 2, and one row more of the first of them makes one comparison; the order counts; rows of issue 0 are not
+-- compared, and other classes have issues of their own; an issue that nets to zero was kept; a refusal counts nothing, 12 too
+unfoldable pub comparedFacts : List Worked
+comparedFacts =
+    compares (bond 900 1 1 0 ∷ bond 900 2 1 0 ∷ bond 900 3 1 0 ∷ bond 900 4 1 0 ∷ bond 900 5 1 0 ∷ []) 10
+    ∷ compares (bond 900 1 1 0 ∷ bond 900 2 1 0 ∷ bond 900 3 1 0 ∷ bond 900 4 1 0 ∷ bond 900 5 1 0 ∷ bond 900 1 1 0 ∷ []) 11
+    ∷ compares (bond 900 1 1 0 ∷ bond 900 1 1 0 ∷ bond 900 2 1 0 ∷ []) 2
+    ∷ compares (bond 900 1 1 0 ∷ bond 900 2 1 0 ∷ bond 900 2 1 0 ∷ []) 3
+    ∷ compares (bond 900 1 1 0 ∷ bond 900 0 1 0 ∷ bond 900 0 1 0 ∷ bond 900 1 1 0 ∷ []) 1
+    ∷ compares (bond 900 1 1 0 ∷ share 1 1 0 ∷ share 2 1 0 ∷ []) 1
+    ∷ compares (bond 900 1 1 0 ∷ bond 900 1 0 1 ∷ bond 900 2 1 0 ∷ []) 2
+    ∷ compares [] 0
+    ∷ compares (bond 900 1 1 0 ∷ bond 900 2 1 0 ∷ bond 901 2 1 0 ∷ []) 0
+    ∷ record { given = nettedOf (bookOf (bond 900 1 1 0 ∷ bond 900 2 1 0 ∷ [])) 39 .comparisons ∷ []; expected = 0 ∷ [] }
+    ∷ []

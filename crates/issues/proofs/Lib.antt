@@ -6,3 +6,4 @@ pub mod Kept
 pub mod Again
 pub mod Agreeing
 pub mod Costs
+pub mod Comparing

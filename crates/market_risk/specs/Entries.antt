@@ -51,6 +51,6 @@ smallEntries bank = refusalEntries (bank .refusal) ++ smallFigures bank
 unfoldable pub joinedEntries : Joined → List ℕ
 joinedEntries joined = refusalEntries (joined .refusal) ++ (joined .length ∷ [])
 
--- the refusal, the length of the netted book (P1)
+-- the refusal, the length of the netted book (P1), the comparisons (P7)
 unfoldable pub nettedEntries : Netted → List ℕ
-nettedEntries netted = refusalEntries (netted .refusal) ++ (netted .length ∷ [])
+nettedEntries netted = refusalEntries (netted .refusal) ++ (netted .length ∷ netted .comparisons ∷ [])

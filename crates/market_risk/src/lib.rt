@@ -152,7 +152,7 @@ pub extern "C" fn market_risk_join(a: &[u8], b: &[u8], out: &mut [u8], result: &
 
 // Nets the issues of a book into out: bytes past the netted book keep their values, of a refused call all do.
 #[no_mangle]
-pub extern "C" fn market_risk_net(book: &[u8], out: &mut [u8], result: &mut [u64; 4])
+pub extern "C" fn market_risk_net(book: &[u8], out: &mut [u8], result: &mut [u64; 5])
     ensures { λ r. ⌜ now (out .exit) ≡ nettingOutput (now (book .entry)) (now (out .entry)) ⌝ }
     ensures { λ r. ⌜ now (result .exit) ≡ nettedEntries (nettedOf (now (book .entry)) (len (now (out .entry)))) ⌝ }
 {
@@ -162,5 +162,6 @@ pub extern "C" fn market_risk_net(book: &[u8], out: &mut [u8], result: &mut [u64
         netted.refusal.row as u64,
         netted.refusal.book as u64,
         netted.length as u64,
+        netted.comparisons as u64,
     ];
 }

@@ -1,6 +1,6 @@
 -- The rows of a class, taken one after the other: none differs, and their amounts are in the tables at the places of the first rows of their issues.
 -- Assumes nothing.
-use mathlib.Core.Path.{_≡_, refl, sym, ap, _∙_}
+use mathlib.Core.Path.{_≡_, refl, sym, ap, ap₂, _∙_}
 use mathlib.Core.Bool.{true, false, not}
 use mathlib.Core.List.{List, [], _∷_, _++_, map}
 use Prim.Native.Nat.{ℕ, zero, suc, _+_, _*_, _≤_, _<_}
@@ -21,6 +21,8 @@ use Rattle.book.specs.declared.Row.{Row}
 use Rattle.book.specs.Fields.{u16At, u32At}
 use Rattle.book.specs.Rows.{decode}
 use Rattle.book.specs.Refusals.{mostRows}
+use Rattle.issues.specs.Comparing.{comparisons, comparisonsFrom}
+use Rattle.issues.proofs.Comparing.{rowComparisons, comparisons-last, row-within}
 use Rattle.issues.specs.Agreeing.{sameTerms, differs}
 use Rattle.netting.specs.Inner.Places.{keptIssues, Keeps, FirstRowIs, FirstRowFound, firstRowOf}
 use Rattle.netting.specs.Inner.Gathering.{issueNumbers, gatheredIn, CanGather, Gathered}
@@ -66,6 +68,11 @@ module _ (amount : Row → ℕ) (first : ℕ) (rows : List Row) (table : List �
           ap (λ (size : ℕ). bound * size) (span-length 0 n),
         )
 
+taken-issues : (n : ℕ) (rows : List Row) → map (λ r. r .issue) (take n rows) ≡ take n (issueNumbers rows)
+taken-issues zero rows = refl
+taken-issues (suc n) [] = refl
+taken-issues (suc n) (row ∷ rows) = ap (λ (l : List ℕ). row .issue ∷ l) (taken-issues n rows)
+
 -- ---- a loop over the rows
 pub no-long : noRow .long ≡ 0
 unfolding decode u32At u16At
@@ -75,24 +82,29 @@ pub no-short : noRow .short ≡ 0
 unfolding decode u32At u16At
 no-short = refl
 
-pub record Adds (first : ℕ) (rows : List Row) (longs₀ shorts₀ : List ℕ) (row kept : ℕ) (issues places longs shorts : List ℕ) : Type 0 where
+pub record Adds (first : ℕ) (rows : List Row) (longs₀ shorts₀ : List ℕ) (row kept compared : ℕ) (issues places longs shorts : List ℕ) : Type 0 where
   pub passed : Searched (differs rows) rows row
   pub keeps : Keeps (take row (issueNumbers rows)) kept issues places
+  pub is-compared : compared ≡ comparisons (take row rows)
+  pub few-compared : compared ≤ mostRows * row
   pub longs-are : longs ≡ gatheredIn (λ r. r .long) first rows row longs₀
   pub shorts-are : shorts ≡ gatheredIn (λ r. r .short) first rows row shorts₀
 
 module _ (first : ℕ) (rows : List Row) (longs₀ shorts₀ : List ℕ) (can : CanGather first rows longs₀ shorts₀) where
-  pub adds-none : {issues places : List ℕ} → length issues ≡ mostRows → length places ≡ mostRows → Adds first rows longs₀ shorts₀ 0 0 issues places longs₀ shorts₀
-  unfolding keptIssues span
+  pub adds-none : {issues places : List ℕ} → length issues ≡ mostRows → length places ≡ mostRows → Adds first rows longs₀ shorts₀ 0 0 0 issues places longs₀ shorts₀
+  unfolding keptIssues span comparisonsFrom
   adds-none sized-kept sized-places =
       record {
         passed = searched-none (differs rows) rows;
         keeps = record { sized-kept = sized-kept; sized-places = sized-places; many = omega arith; is-kept = refl; is-places = refl };
+        is-compared = refl;
+        few-compared = omega arith;
         longs-are = refl;
         shorts-are = refl;
       }
 
-  module _ {row kept : ℕ} {issues places longs shorts : List ℕ} (now : Adds first rows longs₀ shorts₀ row kept issues places longs shorts) (h : row < length rows) where
+  module _ {row kept compared : ℕ} {issues places longs shorts : List ℕ}
+      (now : Adds first rows longs₀ shorts₀ row kept compared issues places longs shorts) (h : row < length rows) where
     -- the issue of the row, after those of the rows before it
     size : length (take row (issueNumbers rows)) ≡ row
     size = length-take-le row (issueNumbers rows) (omega (arith, length-map rows (λ r. r .issue)))
@@ -100,8 +112,8 @@ module _ (first : ℕ) (rows : List Row) (longs₀ shorts₀ : List ℕ) (can : 
     pub few-kept : kept ≤ row
     few-kept = omega (arith, now .keeps .many, size)
 
-    module _ (leg : Row) (is-leg : leg ≡ getD rows row noRow) {at kept′ : ℕ} {issues′ places′ : List ℕ}
-        (found : FirstRowFound (leg .issue) row kept issues places at kept′ issues′ places′) where
+    module _ (leg : Row) (is-leg : leg ≡ getD rows row noRow) {at kept′ compared′ : ℕ} {issues′ places′ : List ℕ}
+        (found : FirstRowFound (leg .issue) row kept issues places at kept′ compared′ issues′ places′) where
       is-first : FirstRowIs (take row (issueNumbers rows)) (leg .issue) at kept′ issues′ places′
       is-first = found .after (take row (issueNumbers rows)) size (now .keeps)
 
@@ -130,26 +142,57 @@ module _ (first : ℕ) (rows : List Row) (longs₀ shorts₀ : List ℕ) (can : 
           ∙ ap (λ (k : ℕ). not (sameTerms (getD rows k noRow) (getD rows row noRow))) (sym at-first-row)
           ∙ ap (λ (r : Row). not (sameTerms (getD rows at noRow) r)) (sym is-leg)
 
+      -- the comparisons of the rows with this one
+      made : compared′ ≡ rowComparisons (keptIssues (take row (issueNumbers rows))) (leg .issue)
+      made = found .is-compared ∙ ap (λ (l : List ℕ). rowComparisons l (leg .issue)) (now .keeps .is-kept)
+
+      counted : compared + compared′ ≡ comparisons (take (row + 1) rows)
+      unfolding keptIssues
+      counted =
+          ap₂ _+_ (now .is-compared) (made ∙ rw (sym (taken-issues row rows), is-leg))
+          ∙ sym (comparisons-last [] (take row rows) (getD rows row noRow))
+          ∙ ap comparisons (sym (rw (add-one row) (take-suc rows row noRow h)))
+
+      pub few-more : compared′ ≤ kept
+      few-more =
+          omega (
+            arith,
+            made,
+            row-within (keptIssues (take row (issueNumbers rows))) (leg .issue),
+            ap length (sym (now .keeps .is-kept)) ∙ length-take-le kept issues (omega (arith, few-kept, now .keeps .sized-kept, can .room)),
+          )
+
       pub adds-next : sameTerms (getD rows at noRow) leg ≡ true → {longs′ shorts′ : List ℕ}
           → longs′ ≡ set longs (first + at) (getD longs (first + at) 0 + leg .long) → shorts′ ≡ set shorts (first + at) (getD shorts (first + at) 0 + leg .short)
-          → Adds first rows longs₀ shorts₀ (row + 1) kept′ issues′ places′ longs′ shorts′
+          → Adds first rows longs₀ shorts₀ (row + 1) kept′ (compared + compared′) issues′ places′ longs′ shorts′
       adds-next same longs-is shorts-is =
           record {
             passed = searched-next (differs rows) rows row noRow h (now .passed) (differs-here ∙ ap not same);
             keeps = rw (add-one row, take-suc (issueNumbers rows) row 0 (omega (arith, length-map rows (λ r. r .issue))), ← own-issue) (is-first .keeps);
+            is-compared = counted;
+            few-compared = omega (arith, now .few-compared, few-more, few-kept, can .room);
             longs-are = longs-is ∙ added (λ r. r .long) no-long longs₀ (now .longs-are);
             shorts-are = shorts-is ∙ added (λ r. r .short) no-short shorts₀ (now .shorts-are);
           }
 
-      pub adds-leaves : sameTerms (getD rows at noRow) leg ≡ false → Gathered first rows row longs₀ shorts₀ longs shorts
+      pub adds-leaves : sameTerms (getD rows at noRow) leg ≡ false → Gathered first rows row compared longs₀ shorts₀ longs shorts
       adds-leaves other =
           record {
             is = sym (searched-here (differs rows) rows row noRow h (now .passed) (differs-here ∙ ap not other));
+            is-compared = now .is-compared;
+            few-compared = now .few-compared;
             longs-are = now .longs-are;
             shorts-are = now .shorts-are;
           }
 
-  pub adds-all : {row kept : ℕ} {issues places longs shorts : List ℕ} → Adds first rows longs₀ shorts₀ row kept issues places longs shorts → length rows ≤ row
-      → Gathered first rows row longs₀ shorts₀ longs shorts
+  pub adds-all : {row kept compared : ℕ} {issues places longs shorts : List ℕ}
+      → Adds first rows longs₀ shorts₀ row kept compared issues places longs shorts → length rows ≤ row
+      → Gathered first rows row compared longs₀ shorts₀ longs shorts
   adds-all {row} now past =
-      record { is = sym (searched-all (differs rows) rows row past (now .passed)); longs-are = now .longs-are; shorts-are = now .shorts-are }
+      record {
+        is = sym (searched-all (differs rows) rows row past (now .passed));
+        is-compared = now .is-compared;
+        few-compared = now .few-compared;
+        longs-are = now .longs-are;
+        shorts-are = now .shorts-are;
+      }

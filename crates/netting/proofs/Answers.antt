@@ -12,7 +12,7 @@ use Rattle.book.specs.Refusals.{refused, refusalOf}
 use Rattle.book.specs.Accepted.{Accepted}
 use Rattle.book.proofs.Acceptance.{refused-with-none}
 use Rattle.layout.specs.Written.{written}
-use Rattle.netting.specs.Netted.{Netted, differingRefusal, overRefusal, orNext, issuesRefusal, roomRefusal, nettedBook, nettingRefusal, nettedOf, nettingOutput}
+use Rattle.netting.specs.Netted.{Netted, differingRefusal, overRefusal, orNext, issuesRefusal, roomRefusal, nettedBook, comparisonsOf, nettingRefusal, nettedOf, nettingOutput}
 use Rattle.netting.specs.Inner.Writing.{refusedNetting}
 
 -- ---- the first of two refusals
@@ -55,7 +55,8 @@ module _ (s : List ℕ) where
       unfolding nettingRefusal roomRefusal refused
       too-short h = with-refusal (refused 12 0) (or-next (issuesRefusal s) _ none ∙ rw (lt-ltb _ _ h)) (λ e. omega arith)
 
-      pub carried-out : length (nettedBook s) ≤ length out → Answers (record { refusal = refused 0 0; length = length (nettedBook s) }) (written out 0 (nettedBook s))
+      pub carried-out : length (nettedBook s) ≤ length out
+          → Answers (record { refusal = refused 0 0; length = length (nettedBook s); comparisons = comparisonsOf s }) (written out 0 (nettedBook s))
       unfolding nettingRefusal roomRefusal nettedOf nettingOutput refused
       carried-out h =
           let fits : nettingRefusal s (length out) ≡ refused 0 0 = or-next (issuesRefusal s) _ none ∙ rw (le-ltb _ _ h) in

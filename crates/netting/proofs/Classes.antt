@@ -3,23 +3,26 @@
 use mathlib.Core.Path.{_≡_, sym, ap, _∙_}
 use mathlib.Core.Bool.{Bool}
 use mathlib.Core.List.{List, _++_, map}
-use Prim.Native.Nat.{ℕ, zero, suc, _+_, _-_, _≤_, _<_}
-use native.Mathlib.Nat.{add-zero, add-suc}
+use Prim.Native.Nat.{ℕ, zero, suc, _+_, _-_, _≤_, _<_, _*_}
+use native.Mathlib.Nat.{zero-add, add-zero, add-suc}
 use native.Mathlib.Numerals.{lt-of-le-of-ne}
 use native.Mathlib.Decide.{ℕ-discrete, decLt}
 use native.Mathlib.Omega.{arith}
-use lib.ListN.{length, getD, length-replicate, replicate, getD-replicate, List·getD-eq-default}
+use lib.Seq.{take-length}
+use lib.ListN.{drop, length, getD, length-replicate, replicate, getD-replicate, List·getD-eq-default}
+use Rattle.sums.specs.Sums.{sumOf}
 use Rattle.sums.proofs.Every.{every-implied}
 use Rattle.book.specs.declared.Row.{Row}
 use Rattle.book.specs.declared.Counts.{Counts}
-use Rattle.book.specs.Counts.{countsOf, countIn, rowsBefore}
+use Rattle.book.specs.Counts.{classes, countsOf, countIn, rowsBefore}
 use Rattle.book.specs.Legs.{Leg, legsOf, ofClass}
 use Rattle.book.specs.Refusals.{mostRows, refused}
 use Rattle.book.specs.Accepted.{Accepted}
-use Rattle.book.proofs.Placing.{fromClass, from-first, from-last, before-none, before-next, before-within}
+use Rattle.book.proofs.Placing.{of-four, fromClass, from-first, from-last, before-none, before-next, before-within}
 use Rattle.book.proofs.Walking.{classLegs, legs-by-class}
+use Rattle.issues.specs.Comparing.{comparisons}
 use Rattle.issues.specs.Agreeing.{differs}
-use Rattle.netting.specs.Netted.{firstFound, foundInClass, differingRefusal}
+use Rattle.netting.specs.Netted.{firstFound, foundInClass, differingRefusal, comparisonsOf}
 use Rattle.netting.specs.Inner.Gathering.{Holds, CanGather, Gathered, GatheredBook, gatheredIn}
 use Rattle.netting.proofs.Places.{place-within}
 use Rattle.netting.proofs.Adding.{gathered-length}
@@ -30,12 +33,25 @@ use Rattle.netting.proofs.ClassRows.{found-past, found-in, class-size, 
 abbrev test : List ℕ → Leg → Bool
 test s leg = differs (ofClass (leg .class) (legsOf s)) (leg .row)
 
-pub record GatheredTo (s : List ℕ) (class : ℕ) (longs shorts : List ℕ) : Type 0 where
+-- the comparisons of a class, and of the classes from one on
+abbrev pub classComparisons : List ℕ → ℕ → ℕ
+classComparisons s class = comparisons (ofClass class (legsOf s))
+
+unfoldable pub leftFrom : List ℕ → ℕ → ℕ
+leftFrom s class = sumOf (classComparisons s) (drop (class - 1) classes)
+
+left-next : (s : List ℕ) (class : ℕ) → 1 ≤ class → class ≤ 4 → leftFrom s class ≡ classComparisons s class + leftFrom s (class + 1)
+unfolding leftFrom sumOf
+left-next s = of-four (λ class. leftFrom s class ≡ classComparisons s class + leftFrom s (class + 1)) (omega arith) (omega arith) (omega arith) (omega arith)
+
+pub record GatheredTo (s : List ℕ) (class compared : ℕ) (longs shorts : List ℕ) : Type 0 where
   pub low : 1 ≤ class
   pub high : class ≤ 5
   pub sized-longs : length longs ≡ mostRows
   pub sized-shorts : length shorts ≡ mostRows
   pub unfound : firstFound 13 (test s) (rowsBefore (countsOf s) class) (fromClass (classLegs s) class) ≡ differingRefusal (legsOf s)
+  pub is-compared : compared + leftFrom s class ≡ comparisonsOf s
+  pub few-compared : compared ≤ mostRows * rowsBefore (countsOf s) class
   pub clear-longs : (m : ℕ) → rowsBefore (countsOf s) class ≤ m → getD longs m 0 ≡ 0
   pub clear-shorts : (m : ℕ) → rowsBefore (countsOf s) class ≤ m → getD shorts m 0 ≡ 0
   pub holds : (other : ℕ) → 1 ≤ other → other < class → Holds (rowsBefore (countsOf s) other) (ofClass other (legsOf s)) longs shorts
@@ -58,8 +74,8 @@ rows-apart counts class later h =
     let is : class + 1 + (later - (class + 1)) ≡ later = omega arith in
     omega (arith, before-next counts class, before-grows counts (class + 1) (later - (class + 1)), ap (rowsBefore counts) is)
 
-pub gathered-none : (s : List ℕ) → GatheredTo s 1 (replicate mostRows 0) (replicate mostRows 0)
-unfolding foundInClass
+pub gathered-none : (s : List ℕ) → GatheredTo s 1 0 (replicate mostRows 0) (replicate mostRows 0)
+unfolding foundInClass leftFrom comparisonsOf
 gathered-none s =
     record {
       low = omega arith;
@@ -67,12 +83,14 @@ gathered-none s =
       sized-longs = length-replicate {A = ℕ} mostRows 0;
       sized-shorts = length-replicate {A = ℕ} mostRows 0;
       unfound = rw (before-none (countsOf s) 1 (omega arith), from-first (classLegs s), ← legs-by-class s);
+      is-compared = zero-add _;
+      few-compared = omega arith;
       clear-longs = λ m h. zero-anywhere mostRows m;
       clear-shorts = λ m h. zero-anywhere mostRows m;
       holds = λ other low high. let never : ⊥ = omega arith in absurd never;
     }
 
-module _ (s : List ℕ) (ok : Accepted s) (class : ℕ) (longs shorts : List ℕ) (now : GatheredTo s class longs shorts) (high : class ≤ 4) where
+module _ (s : List ℕ) (ok : Accepted s) (class compared : ℕ) (longs shorts : List ℕ) (now : GatheredTo s class compared longs shorts) (high : class ≤ 4) where
   abbrev first : ℕ
   first = rowsBefore (countsOf s) class
 
@@ -96,7 +114,7 @@ module _ (s : List ℕ) (ok : Accepted s) (class : ℕ) (longs shorts : List ℕ
   legs : firstFound 13 (test s) first (map (legWith class) rows ++ fromClass (classLegs s) (class + 1)) ≡ differingRefusal (legsOf s)
   legs = rw (← legs-next s ok class (now .low) high) (now .unfound)
 
-  module _ (row : ℕ) (longs′ shorts′ : List ℕ) (did : Gathered first rows row longs shorts longs′ shorts′) where
+  module _ (row compared′ : ℕ) (longs′ shorts′ : List ℕ) (did : Gathered first rows row compared′ longs shorts longs′ shorts′) where
     pub leaves : row < length rows → differingRefusal (legsOf s) ≡ refused 13 (first + row)
     leaves h =
         sym legs ∙ found-in 13 class (test s) (fromClass (classLegs s) (class + 1)) first rows (rw (did .is) at h)
@@ -113,10 +131,13 @@ module _ (s : List ℕ) (ok : Accepted s) (class : ℕ) (longs shorts : List ℕ
       is-shorts : shorts′ ≡ gatheredIn (λ r. r .short) first rows (length rows) shorts
       is-shorts = did .shorts-are ∙ ap (λ (n : ℕ). gatheredIn (λ r. r .short) first rows n shorts) all
 
+      counted : compared′ ≡ classComparisons s class
+      counted = did .is-compared ∙ ap comparisons (rw all (take-length rows))
+
       past-class : rowsBefore (countsOf s) (class + 1) ≡ first + length rows
       past-class = before-next (countsOf s) class ∙ ap (λ (n : ℕ). first + n) (sym size)
 
-      pub goes-on : GatheredTo s (class + 1) longs′ shorts′
+      pub goes-on : GatheredTo s (class + 1) (compared + compared′) longs′ shorts′
       goes-on =
           record {
             low = omega arith;
@@ -124,6 +145,8 @@ module _ (s : List ℕ) (ok : Accepted s) (class : ℕ) (longs shorts : List ℕ
             sized-longs = ap length is-longs ∙ gathered-length (λ r. r .long) first rows longs (length rows) ∙ now .sized-longs;
             sized-shorts = ap length is-shorts ∙ gathered-length (λ r. r .short) first rows shorts (length rows) ∙ now .sized-shorts;
             unfound = rw past-class (sym (found-past 13 class (test s) (fromClass (classLegs s) (class + 1)) first rows (sym (did .is) ∙ all)) ∙ legs);
+            is-compared = omega (arith, now .is-compared, left-next s class (now .low) high, counted);
+            few-compared = omega (arith, now .few-compared, did .few-compared, past-class, all);
             clear-longs = λ m h. rw is-longs (all-past (λ r. r .long) first rows longs m (omega (arith, past-class)) (now .clear-longs m (omega (arith, past-class))));
             clear-shorts = λ m h. rw is-shorts (all-past (λ r. r .short) first rows shorts m (omega (arith, past-class)) (now .clear-shorts m (omega (arith, past-class))));
             holds = λ other low below. stands other low (ℕ-discrete other class) below;
@@ -149,11 +172,13 @@ module _ (s : List ℕ) (ok : Accepted s) (class : ℕ) (longs shorts : List ℕ
               })
 
 -- all classes are gathered
-pub gathered-all : (s : List ℕ) (class : ℕ) (longs shorts : List ℕ) → GatheredTo s class longs shorts → 4 < class → GatheredBook s (refused 0 0) longs shorts
-unfolding firstFound
-gathered-all s class longs shorts now past =
+pub gathered-all : (s : List ℕ) (class compared : ℕ) (longs shorts : List ℕ) → GatheredTo s class compared longs shorts → 4 < class
+    → GatheredBook s (refused 0 0) compared longs shorts
+unfolding firstFound leftFrom sumOf
+gathered-all s class compared longs shorts now past =
     let last : class ≡ 5 = omega (arith, now .high) in
     record {
       is = rw (last, from-last (classLegs s)) at (now .unfound);
+      is-compared = λ none′. sym (add-zero compared) ∙ rw last at (now .is-compared);
       holds = λ none′ other low high. now .holds other low (omega arith);
     }

@@ -13,13 +13,14 @@ use borrow.Author.Tests.{eqb-true, eq-eqb, ne-eqb}
 use Rattle.sums.specs.Every.{Every, none, also}
 use Rattle.sums.proofs.Every.{every-append}
 use Rattle.book.specs.Refusals.{mostRows}
+use Rattle.issues.specs.Comparing.{keptWith}
 use Rattle.issues.specs.Issues.{has}
 use Rattle.netting.proofs.Standing.{or-assoc, has-within, lacks-past, place-append, place-last, place-mapped, has-append, has-single, has-later}
 use Rattle.issues.proofs.Walking.{has-own}
-use Rattle.netting.specs.Inner.Places.{placeOf, keepIssue, keptIssues, Keeps, FirstRowIs, firstRowOf}
+use Rattle.netting.specs.Inner.Places.{placeOf, keptIssues, Keeps, FirstRowIs, firstRowOf}
 
 module _ (issue : ℕ) (some : issue ≡ 0 → ⊥) where
-  kept-more : (kept : List ℕ) (other : ℕ) → has (keepIssue kept other) issue ≡ has kept issue || eqb other issue
+  kept-more : (kept : List ℕ) (other : ℕ) → has (keptWith kept other) issue ≡ has kept issue || eqb other issue
   kept-more kept other = go (eqb other 0) refl (has kept other) refl (eqb other issue) refl
     where
       go : (zero? : Bool) → eqb other 0 ≡ zero? → (old? : Bool) → has kept other ≡ old? → (own? : Bool) → eqb other issue ≡ own?
@@ -32,11 +33,11 @@ module _ (issue : ℕ) (some : issue ≡ 0 → ⊥) where
       go false e true o false p = sym (or-false (has kept issue))
       go false e false o own? p = has-append kept (other ∷ []) issue ∙ ap (λ (t : Bool). has kept issue || t) (has-single other issue ∙ p)
 
-  kept-from : (kept list : List ℕ) → has (foldl keepIssue kept list) issue ≡ has kept issue || has list issue
+  kept-from : (kept list : List ℕ) → has (foldl keptWith kept list) issue ≡ has kept issue || has list issue
   unfolding has
   kept-from kept [] = sym (or-false (has kept issue))
   kept-from kept (other ∷ list) =
-      kept-from (keepIssue kept other) list
+      kept-from (keptWith kept other) list
       ∙ rw (kept-more kept other) (or-assoc (has kept issue) (eqb other issue) (has list issue))
 
   pub kept-has : (list : List ℕ) → has (keptIssues list) issue ≡ has list issue
@@ -44,10 +45,10 @@ module _ (issue : ℕ) (some : issue ≡ 0 → ⊥) where
   kept-has list = kept-from [] list
 
 kept-among : (all kept list : List ℕ) → Every (λ issue. has all issue ≡ true) kept → ((issue : ℕ) → has list issue ≡ true → has all issue ≡ true)
-    → Every (λ issue. has all issue ≡ true) (foldl keepIssue kept list)
+    → Every (λ issue. has all issue ≡ true) (foldl keptWith kept list)
 kept-among all kept [] e h = e
 kept-among all kept (other ∷ list) e h =
-    kept-among all (keepIssue kept other) list (go (eqb other 0 || has kept other)) (λ issue in-list. h issue (has-later list other issue in-list))
+    kept-among all (keptWith kept other) list (go (eqb other 0 || has kept other)) (λ issue in-list. h issue (has-later list other issue in-list))
   where
     go : (test : Bool) → Every (λ issue. has all issue ≡ true) (cond test kept (kept ++ (other ∷ [])))
     go true = e
@@ -65,9 +66,9 @@ kept-places list issue = places-same list (issue ∷ []) (kept-among list [] lis
 
 -- ---- one row more
 module _ (before : List ℕ) (issue : ℕ) where
-  kept-next : keptIssues (before ++ (issue ∷ [])) ≡ keepIssue (keptIssues before) issue
+  kept-next : keptIssues (before ++ (issue ∷ [])) ≡ keptWith (keptIssues before) issue
   unfolding keptIssues
-  kept-next = foldl-append keepIssue [] before (issue ∷ [])
+  kept-next = foldl-append keptWith [] before (issue ∷ [])
 
   first-row-here : firstRowOf (before ++ (issue ∷ [])) (length before) ≡ cond (eqb issue 0) (length before) (placeOf issue (before ++ (issue ∷ [])))
   unfolding firstRowOf
@@ -78,7 +79,7 @@ module _ (before : List ℕ) (issue : ℕ) where
 
   module _ (few : length before < mostRows) (n : ℕ) (kept places : List ℕ) (now : Keeps before n kept places) where
     -- nothing is kept of a row of issue 0, or of an issue that is kept
-    stays : keepIssue (keptIssues before) issue ≡ keptIssues before → Keeps (before ++ (issue ∷ [])) n kept places
+    stays : keptWith (keptIssues before) issue ≡ keptIssues before → Keeps (before ++ (issue ∷ [])) n kept places
     stays same =
         record {
           sized-kept = now .sized-kept;

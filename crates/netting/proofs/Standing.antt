@@ -3,12 +3,13 @@
 use mathlib.Core.Path.{_≡_, refl, sym, ap}
 use mathlib.Core.Bool.{Bool, true, false, true≢false, cond, _||_, or-true, or-false}
 use mathlib.Core.List.{List, [], _∷_, _++_, map}
-use Prim.Native.Nat.{ℕ, suc, _<_}
+use Prim.Native.Nat.{ℕ, suc, _+_, _<_}
 use native.Mathlib.Omega.{arith}
 use lib.Dec.{eqb}
 use lib.ListN.{length, getD}
 use borrow.Author.Tests.{eqb-true, eq-eqb}
 use Rattle.issues.specs.Issues.{has}
+use Rattle.issues.specs.Comparing.{comparedWith}
 use Rattle.netting.specs.Inner.Places.{firstPlace, placeOf}
 
 module _ (issue : ℕ) where
@@ -80,3 +81,25 @@ has-single other issue = or-false (eqb other issue)
 pub has-later : (list : List ℕ) (other issue : ℕ) → has list issue ≡ true → has (other ∷ list) issue ≡ true
 unfolding has
 has-later list other issue e = rw e (or-true (eqb other issue))
+
+-- ---- the comparisons to the first equal
+module _ (issue : ℕ) where
+  pub compared-found : (list : List ℕ) → placeOf issue list < length list → comparedWith list issue ≡ placeOf issue list + 1
+  unfolding comparedWith firstPlace
+  compared-found [] h = let never : ⊥ = omega arith in absurd never
+  compared-found (other ∷ list) h = go (eqb other issue) h (compared-found list)
+    where
+      go : (own : Bool) → cond own 0 (suc (placeOf issue list)) < suc (length list) → (placeOf issue list < length list → comparedWith list issue ≡ placeOf issue list + 1)
+          → suc (cond own 0 (comparedWith list issue)) ≡ cond own 0 (suc (placeOf issue list)) + 1
+      go true h later = omega arith
+      go false h later = omega (arith, later (omega arith))
+
+  pub compared-all : (list : List ℕ) → placeOf issue list ≡ length list → comparedWith list issue ≡ length list
+  unfolding comparedWith firstPlace
+  compared-all [] e = refl
+  compared-all (other ∷ list) e = go (eqb other issue) e (compared-all list)
+    where
+      go : (own : Bool) → cond own 0 (suc (placeOf issue list)) ≡ suc (length list) → (placeOf issue list ≡ length list → comparedWith list issue ≡ length list)
+          → suc (cond own 0 (comparedWith list issue)) ≡ suc (length list)
+      go true e later = let never : ⊥ = omega arith in absurd never
+      go false e later = ap suc (later (omega arith))

@@ -6,11 +6,14 @@ use lib.ListN.{length}
 use lib.Dec.{ltb, eqb}
 use Rattle.book.specs.declared.Row.{Row}
 use Rattle.book.specs.declared.Refusal.{Refusal}
+use Rattle.sums.specs.Sums.{sumOf}
+use Rattle.book.specs.Counts.{classes}
 use Rattle.book.specs.Legs.{Leg, legsOf, ofClass}
 use Rattle.book.specs.Refusals.{refused, refusalOf}
 use Rattle.layout.specs.Written.{written}
 use Rattle.layout.specs.Files.{bookBy}
 use Rattle.issues.specs.Issues.{nettedRows}
+use Rattle.issues.specs.Comparing.{comparisons}
 use Rattle.issues.specs.Agreeing.{differs, overLimit}
 pub use Rattle.netting.specs.declared.Netted.{Netted}
 
@@ -53,17 +56,22 @@ nettedClass s class = nettedRows (ofClass class (legsOf s))
 unfoldable pub nettedBook : List ℕ → List ℕ
 nettedBook s = bookBy (nettedClass s)
 
+-- the comparisons of all its rows, class by class (P7)
+unfoldable pub comparisonsOf : List ℕ → ℕ
+comparisonsOf s = sumOf (λ class. comparisons (ofClass class (legsOf s))) classes
+
 -- ---- the call
 -- the refusal of netting a book into an output of so many bytes: 12 comes last (P1)
 unfoldable pub nettingRefusal : List ℕ → ℕ → Refusal
 nettingRefusal s room = orNext (issuesRefusal s) (roomRefusal (length (nettedBook s)) room)
 
--- the answer: the refusal and the length of the netted book, 0 where it is refused (P1)
+-- the answer: the refusal, the length of the netted book (P1) and the comparisons (P7), 0 where it is refused
 unfoldable pub nettedOf : List ℕ → ℕ → Netted
 nettedOf s room =
     record {
       refusal = nettingRefusal s room;
       length = cond (eqb (nettingRefusal s room .number) 0) (length (nettedBook s)) 0;
+      comparisons = cond (eqb (nettingRefusal s room .number) 0) (comparisonsOf s) 0;
     }
 
 -- the output afterwards: the netted book at its start, the bytes past it as they were; of a refused call all of them (P1)

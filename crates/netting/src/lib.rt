@@ -4,6 +4,7 @@ mod gathering;
 mod nets;
 mod writing;
 
+use crate::gathering::BookSums;
 use book::CONTENTS_SIZE;
 use book::Counts;
 use book::MOST_ROWS;
@@ -14,14 +15,15 @@ ghost use lib.ListN.{length as len, replicate};
 ghost use Rattle.book.specs.Counts.{countsOf};
 ghost use Rattle.book.specs.Refusals.{mostRows};
 ghost use Rattle.book.specs.Accepted.{Accepted};
-ghost use Rattle.netting.specs.Netted.{nettedOf, nettingOutput};
+ghost use Rattle.netting.specs.Netted.{comparisonsOf, nettedOf, nettingOutput};
 ghost use Rattle.netting.specs.Inner.Nets.{Settled};
 ghost use Rattle.netting.specs.Inner.Writing.{CanBeWritten, refusedNetting};
 
-// Why netting is refused, all zero where it is not, and the length of the netted book, 0 where it is refused.
+// Why netting is refused, all zero where it is not; the length of the netted book and the comparisons made, 0 where it is refused.
 pub struct Netted {
     pub refusal: Refusal,
     pub length: usize,
+    pub comparisons: usize,
 }
 
 // Writes the netted book at the start of out; bytes past it keep their values, and all do where netting is refused.
@@ -42,11 +44,12 @@ fn net_accepted(book: &[u8], counts: Counts, out: &mut [u8]) -> Netted
 {
     let mut longs = [0u64; MOST_ROWS];
     let mut shorts = [0u64; MOST_ROWS];
-    let refusal = settle(book, counts, &mut longs, &mut shorts);
+    let sums = settle(book, counts, &mut longs, &mut shorts);
+    let refusal = sums.refusal;
     if refusal.number != 0 {
         return refused(refusal);
     }
-    write_netted(book, counts, &longs, &shorts, out)
+    write_netted(book, counts, &longs, &shorts, sums.compared, out)
 }
 
 // The sums of an accepted book's issues in tables of zeros: 13 over the whole book, then 14; all zero where neither applies.
@@ -55,15 +58,19 @@ fn settle(
     counts: Counts,
     longs: &mut [u64; MOST_ROWS],
     shorts: &mut [u64; MOST_ROWS],
-) -> Refusal
+) -> BookSums
     requires { ⌜ (counts ≡ countsOf (now book)) × Accepted (now book) × (now longs ≡ replicate mostRows 0) × (now shorts ≡ replicate mostRows 0) ⌝ }
-    ensures { λ r. ⌜ Settled (now (book .entry)) r (now (longs .exit)) (now (shorts .exit)) ⌝ }
+    ensures { λ r. ⌜ Settled (now (book .entry)) (r .refusal) (r .compared) (now (longs .exit)) (now (shorts .exit)) ⌝ }
 {
-    let differing = gathering::gather_book(book, counts, longs, shorts);
+    let sums = gathering::gather_book(book, counts, longs, shorts);
+    let differing = sums.refusal;
     if differing.number != 0 {
-        return differing;
+        return sums;
     }
-    nets::first_over(longs, shorts, counts.rows())
+    BookSums {
+        refusal: nets::first_over(longs, shorts, counts.rows()),
+        compared: sums.compared,
+    }
 }
 
 // Writes the netted book by the nets of its issues, unless the output is too short: 12.
@@ -72,9 +79,10 @@ fn write_netted(
     counts: Counts,
     longs: &[u64; MOST_ROWS],
     shorts: &[u64; MOST_ROWS],
+    compared: usize,
     out: &mut [u8],
 ) -> Netted
-    requires { ⌜ (counts ≡ countsOf (now book)) × CanBeWritten (now book) (now longs) (now shorts) ⌝ }
+    requires { ⌜ (counts ≡ countsOf (now book)) × CanBeWritten (now book) (now longs) (now shorts) × (compared ≡ comparisonsOf (now book)) ⌝ }
     ensures { λ r. ⌜ (r ≡ nettedOf (now (book .entry)) (len (now (out .entry)))) × (now (out .exit) ≡ nettingOutput (now (book .entry)) (now (out .entry))) ⌝ }
 {
     let left = nets::left_counts(longs, shorts, counts);
@@ -87,6 +95,7 @@ fn write_netted(
     Netted {
         refusal: book::refused(0, 0),
         length,
+        comparisons: compared,
     }
 }
 
@@ -94,5 +103,9 @@ fn write_netted(
 fn refused(refusal: Refusal) -> Netted
     ensures { λ r. ⌜ r ≡ refusedNetting refusal ⌝ }
 {
-    Netted { refusal, length: 0 }
+    Netted {
+        refusal,
+        length: 0,
+        comparisons: 0,
+    }
 }

@@ -106,6 +106,7 @@ pub fn net(book: &[u8], out: &mut [u8]) {
     let netted = netting::net(book, out);
     start(b"net", netted.refusal);
     figure(netted.length as u64);
+    figure(netted.comparisons as u64);
     figure(checksum(out));
     end();
 }

@@ -93,6 +93,26 @@ impl Issues {
     }
 }
 
+/// An accepted book that can be netted, of so many rows in one class or in all: most have a number
+/// of their own, the others are like a row before them.
+pub fn many(random: &mut Random, shape: &Shape, rows: usize) -> Book {
+    let mut numbers: Vec<u16> = (1..=u16::MAX).collect();
+    random.shuffle(&mut numbers);
+    let classes = random.pick(&[&ALL[..], &[0], &[1], &[2], &[3]]);
+    let mut book = Book::default();
+    for number in numbers.into_iter().take(rows) {
+        let class = random.pick(classes);
+        let before = &book.classes[class];
+        let row = match before.is_empty() || !random.once_in(6) {
+            true => row(random, class, shape).with_issue(number),
+            false => random.pick(before),
+        };
+        let amount = 1 + random.below(9) as u32;
+        book.classes[class].push(row.with_sides(amount, 0));
+    }
+    book
+}
+
 /// A number next to another, within a range that has more than one.
 fn beside(random: &mut Random, value: u16, least: u16, most: u16) -> u16 {
     let up = value == least || (value < most && random.once_in(2));
@@ -205,6 +225,31 @@ mod tests {
         }
         assert!(shared > 180 && across > 60, "{shared} {across}");
         assert!((50..120).contains(&large), "{large}");
+    }
+
+    /// Catches a book of few issues, rows of one that are unlike each other, and other rows than are
+    /// asked for.
+    #[test]
+    fn many_issues_are_most_of_the_rows() {
+        let mut alone = 0;
+        for case in 0..20 {
+            let mut random = Random::of_case(23, case);
+            let shape = Shape::new(&mut random, 0);
+            let book = many(&mut random, &shape, 600);
+            assert_eq!(book.rows(), 600);
+            alone += usize::from(book.classes.iter().any(|rows| rows.len() == 600));
+            let (mut terms, mut issues) = (HashSet::new(), HashSet::new());
+            for (class, rows) in book.classes.iter().enumerate() {
+                for row in rows {
+                    assert!(row.issue != 0 && (1..10).contains(&row.long) && row.short == 0);
+                    issues.insert((class, row.issue));
+                    terms.insert((class, row.issue, row.group, row.kind, row.days, row.coupon));
+                }
+            }
+            assert_eq!(terms.len(), issues.len());
+            assert!((450..560).contains(&issues.len()), "{}", issues.len());
+        }
+        assert!((5..20).contains(&alone), "{alone}");
     }
 
     /// Catches a change that is none, of several fields, of the amounts, or of the number; and a

@@ -1,5 +1,6 @@
 //! The rows of one issue into one: the rows are checked and netted in one pass, then written. Each
-//! numbered row is looked for among the numbers seen in its class, in order.
+//! numbered row is looked for among the numbers seen in its class, in order, and how many of these
+//! it is compared with follows from the place where it is found.
 
 use crate::book::{Bad, Book, MOST_ROWS};
 use crate::row::{Row, MOST};
@@ -23,6 +24,8 @@ struct Seen<const N: usize> {
     numbers: [u16; N],
     places: [u16; N],
     count: usize,
+    /// Comparisons, in all classes.
+    comparisons: usize,
 }
 
 impl<const N: usize> Seen<N> {
@@ -42,6 +45,14 @@ impl<const N: usize> Seen<N> {
         }
         let rest = blocks.remainder().iter();
         Some(start + rest.copied().position(|own| own == issue)?)
+    }
+
+    /// The same, with the comparisons counted: up to the number, or all.
+    #[inline(always)]
+    fn look_for(&mut self, issue: u16) -> Option<usize> {
+        let found = self.find(issue);
+        self.comparisons += found.map_or(self.count, |place| place + 1);
+        found
     }
 }
 
@@ -63,7 +74,7 @@ impl<const N: usize> Kept<N> {
             self.push(row, at);
             return true;
         }
-        if let Some(found) = seen.find(row.issue()) {
+        if let Some(found) = seen.look_for(row.issue()) {
             let place = usize::from(seen.places[found]);
             self.nets[place] += row.net();
             return self.heads[place] == row.head();
@@ -131,6 +142,7 @@ impl<const N: usize> Netting<N> {
             numbers: [0; N],
             places: [0; N],
             count: 0,
+            comparisons: 0,
         },
         taken: 0,
         unlike: None,
@@ -150,9 +162,10 @@ impl<const N: usize> Netting<N> {
     }
 }
 
-/// Nets a book of at most N rows. Each class has a loop of its own, with its limits in it.
+/// Nets a book of at most N rows: its length netted, and the comparisons. Each class has a loop of
+/// its own, with its limits in it.
 #[inline(always)]
-fn within<const N: usize>(book: &Book, out: &mut [u8]) -> Result<usize, Bad> {
+fn within<const N: usize>(book: &Book, out: &mut [u8]) -> Result<[usize; 2], Bad> {
     let mut netting = Netting::<N>::NOTHING;
     let ends = [
         netting.take(book, 0)?,
@@ -162,7 +175,8 @@ fn within<const N: usize>(book: &Book, out: &mut [u8]) -> Result<usize, Bad> {
     ];
     refuse(13, netting.unlike)?;
     refuse(14, netting.kept.over())?;
-    written(&netting.kept, ends, out)
+    let length = written(&netting.kept, ends, out)?;
+    Ok([length, netting.seen.comparisons])
 }
 
 /// Refuses with a number, where there is a row for it.
@@ -186,16 +200,16 @@ fn written<const N: usize>(kept: &Kept<N>, ends: [usize; 4], out: &mut [u8]) -> 
     Ok(length)
 }
 
-/// Number, row, book; the length of the netted book at the front of `out`. A small book has small
-/// arrays: clearing those of a full one takes longer than netting it.
-pub fn net(bytes: &[u8], out: &mut [u8], result: &mut [u64; 4]) {
-    let length = Book::open(bytes).and_then(|book| match book.rows {
+/// Number, row, book; the length of the netted book at the front of `out`; comparisons. A small book
+/// has small arrays: clearing those of a full one takes longer than netting it.
+pub fn net(bytes: &[u8], out: &mut [u8], result: &mut [u64; 5]) {
+    let netted = Book::open(bytes).and_then(|book| match book.rows {
         0..=64 => within::<64>(&book, out),
         65..=512 => within::<512>(&book, out),
         _ => within::<MOST_ROWS>(&book, out),
     });
-    *result = match length {
-        Ok(length) => [0, 0, 0, length as u64],
-        Err(bad) => [bad.number, bad.row as u64, 0, 0],
+    *result = match netted {
+        Ok([length, comparisons]) => [0, 0, 0, length as u64, comparisons as u64],
+        Err(bad) => [bad.number, bad.row as u64, 0, 0, 0],
     }
 }

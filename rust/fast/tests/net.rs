@@ -68,6 +68,31 @@ fn every_place_of_a_number() {
     }
 }
 
+/// Catches comparisons that are counted by blocks: as many as there are numbers before, and up to
+/// the number itself.
+#[test]
+fn comparisons_are_of_single_numbers() {
+    let made = |bytes: &[u8]| {
+        let mut result = [0; 5];
+        fast::net(bytes, &mut vec![0; bytes.len()], &mut result);
+        assert_eq!(result[0], 0);
+        result[4]
+    };
+    for count in [1, 2, 15, 16, 17, 32, 33, 64, 65, 4_000] {
+        let before = u64::from(count) * u64::from(count - 1) / 2;
+        assert_eq!(made(&numbered(1..=count)), before);
+        let places = [1, count.min(16), count.min(17), count];
+        for place in places.into_iter().filter(|_| count < 4_000) {
+            let bytes = numbered((1..=count).chain([place]));
+            assert_eq!(
+                made(&bytes),
+                before + u64::from(place),
+                "{place} of {count}"
+            );
+        }
+    }
+}
+
 /// Catches numbers of one class that are still known in the next.
 #[test]
 fn a_class_knows_its_own_numbers_alone() {

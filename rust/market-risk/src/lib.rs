@@ -26,7 +26,7 @@ mod refusal;
 mod small_bank;
 mod table;
 
-pub use net::{net, netted};
+pub use net::{net, netted, Netted};
 pub use refusal::Refusal;
 pub use small_bank::{small_bank, SmallBank};
 pub use table::{PerCents, Table};

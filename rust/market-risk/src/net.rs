@@ -2,10 +2,21 @@
 
 use crate::{raw, Refusal};
 
-/// Writes the netted book to the front of `out` and gives its length. Within a class the rows of
-/// one issue number other than 0 become one, with their net, in the place of the first; an issue
-/// that nets to zero is left out. Bytes past the netted book keep their values; a refused call
-/// writes nothing.
+/// What netting a book came to.
+#[derive(Clone, Copy, Debug, Default, PartialEq, Eq)]
+pub struct Netted {
+    /// The length of the netted book.
+    pub length: usize,
+    /// How often the issue numbers of two rows were compared: in each class each row that has one,
+    /// with the first rows of the issues before it, in order, up to the one of its own issue. Of a
+    /// book of n rows at most n(n - 1)/2.
+    pub comparisons: u64,
+}
+
+/// Writes the netted book to the front of `out` and gives its length, and how many comparisons it
+/// took. Within a class the rows of one issue number other than 0 become one, with their net, in
+/// the place of the first; an issue that nets to zero is left out. Bytes past the netted book keep
+/// their values; a refused call writes nothing.
 ///
 /// ```
 /// // Currency 7, a government bond of 1,080 days (0x0438), issue 5: long 100 and short 40.
@@ -13,7 +24,8 @@ use crate::{raw, Refusal};
 /// book.extend([7, 1, 0x38, 4, 0x20, 3, 5, 0, 100, 0, 0, 0, 0, 0, 0, 0]);
 /// book.extend([7, 1, 0x38, 4, 0x20, 3, 5, 0, 0, 0, 0, 0, 40, 0, 0, 0]);
 /// let mut out = [9; 26];
-/// assert_eq!(market_risk::net(&book, &mut out), Ok(24));
+/// let netted = market_risk::net(&book, &mut out).unwrap();
+/// assert_eq!((netted.length, netted.comparisons), (24, 1));
 /// assert_eq!(out[..8], [1, 0, 0, 0, 0, 0, 0, 0]);
 /// assert_eq!(out[8..24], [7, 1, 0x38, 4, 0x20, 3, 5, 0, 60, 0, 0, 0, 0, 0, 0, 0]);
 /// assert_eq!(out[24..], [9, 9]);
@@ -22,11 +34,14 @@ use crate::{raw, Refusal};
 /// let refusal = market_risk::net(&book, &mut out).unwrap_err();
 /// assert_eq!((refusal.number, refusal.row), (13, 1));
 /// ```
-pub fn net(book: &[u8], out: &mut [u8]) -> Result<usize, Refusal> {
-    let mut result = [0; 4];
+pub fn net(book: &[u8], out: &mut [u8]) -> Result<Netted, Refusal> {
+    let mut result = [0; 5];
     raw::net(book, out, &mut result);
     Refusal::of(&result)?;
-    Ok(result[3] as usize)
+    Ok(Netted {
+        length: result[3] as usize,
+        comparisons: result[4],
+    })
 }
 
 /// The netted book, in a buffer of its own.
@@ -37,7 +52,7 @@ pub fn net(book: &[u8], out: &mut [u8]) -> Result<usize, Refusal> {
 pub fn netted(book: &[u8]) -> Result<Vec<u8>, Refusal> {
     // A netted book is never longer than the book.
     let mut out = vec![0; book.len()];
-    let length = net(book, &mut out)?;
-    out.truncate(length);
+    let netted = net(book, &mut out)?;
+    out.truncate(netted.length);
     Ok(out)
 }

@@ -121,8 +121,8 @@ pub fn join(a: &[u8], b: &[u8], out: &mut [u8], result: &mut [u64; 4]) {
     }
 }
 
-/// Number, row, book; the length of the netted book at the front of `out`.
-pub fn net(book: &[u8], out: &mut [u8], result: &mut [u64; 4]) {
+/// Number, row, book; the length of the netted book at the front of `out`; how many comparisons.
+pub fn net(book: &[u8], out: &mut [u8], result: &mut [u64; 5]) {
     // SAFETY: as in `check`; `out` does not overlap the book, since it is borrowed alone.
     unsafe {
         c::market_risk_net(

@@ -153,7 +153,7 @@ fn every_number_that_is_given_has_words() {
 fn every_entry_is_written() {
     let marked = u64::MAX;
     let (mut check, mut charge) = ([marked; 3], [marked; 75]);
-    let (mut join, mut net) = ([marked; 4], [marked; 4]);
+    let (mut join, mut net) = ([marked; 4], [marked; 5]);
     let (mut interest, mut commodity) = ([marked; 13], [marked; 7]);
     let mut small_bank = [marked; 6];
     let table = Table::amendment();

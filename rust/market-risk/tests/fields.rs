@@ -222,18 +222,20 @@ fn netting_and_its_refusals() {
     let mut one = row(7, 1, 1080, 800, 6);
     one[6] = 5;
     let expected = book([&[one, rows[1]], &[], &[], &[]]);
-    let (mut out, mut entries) = (vec![9; 50], [0; 4]);
+    let (mut out, mut entries) = (vec![9; 50], [0; 5]);
     raw::net(&whole, &mut out, &mut entries);
-    assert_eq!(entries, [0, 0, 0, 8 + 2 * 16]);
+    assert_eq!(entries, [0, 0, 0, 8 + 2 * 16, 1]);
     assert_eq!(out, [&expected[..], &[9; 10]].concat());
-    assert_eq!(net(&whole, &mut out), Ok(40));
+    let done = net(&whole, &mut out).unwrap();
+    let fields = vec![done.length as u64, done.comparisons];
+    hold(&[(entries.to_vec(), fields)]);
     assert_eq!(netted(&whole), Ok(expected));
     // Number and row differ: row 2 is of another currency.
     rows[2][0] = 8;
     let bad = book([&rows, &[], &[], &[]]);
     raw::net(&bad, &mut out, &mut entries);
-    assert_eq!(entries, [13, 2, 0, 0]);
-    let [number, row, book, _] = entries;
+    assert_eq!(entries, [13, 2, 0, 0, 0]);
+    let [number, row, book, ..] = entries;
     assert_eq!(netted(&bad), Err(Refusal { number, row, book }));
     assert_eq!(net(&bad, &mut out), Err(Refusal { number, row, book }));
 }

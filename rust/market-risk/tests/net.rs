@@ -134,7 +134,7 @@ fn every_byte_of_the_output() {
     let expected = book(&[bond(5, 60, 0)], &[]);
     for room in 24..50 {
         let mut out = vec![0xa5; room];
-        assert_eq!(net(&whole, &mut out), Ok(24));
+        assert_eq!(net(&whole, &mut out).unwrap().length, 24);
         assert_eq!(out, [&expected[..], &vec![0xa5; room - 24]].concat());
     }
     for room in 0..24 {

@@ -69,9 +69,9 @@ impl Joined {
 }
 
 impl Netted {
-    /// The refusal and the length.
-    pub fn entries(&self) -> [u64; 4] {
-        laid_out(self.refusal, &[self.length])
+    /// The refusal, the length and the comparisons.
+    pub fn entries(&self) -> [u64; 5] {
+        laid_out(self.refusal, &[self.length, self.comparisons])
     }
 }
 

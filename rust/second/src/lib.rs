@@ -12,6 +12,7 @@
 mod bands;
 mod book;
 mod commodity;
+mod comparisons;
 mod entries;
 mod interest;
 mod join;
@@ -25,6 +26,7 @@ mod table;
 pub use bands::{commodity_band, interest_band, interest_weight, zone_of_band};
 pub use book::{check, Refusal};
 pub use commodity::{commodity_ladder, CommodityLadder};
+pub use comparisons::comparisons;
 pub use interest::{interest_ladder, zones_used, InterestLadder};
 pub use join::{join, Joined};
 pub use net::{net, netted, Netted};

@@ -2,13 +2,16 @@
 //! same issue may be set off (A.1, 3, 10 and 20; A.2, 1 and 6).
 
 use crate::book::{read, Class, Refusal, Row, CLASSES, LIMIT};
+use crate::comparisons::comparisons;
 use std::collections::HashMap;
 
-/// What netting gives: the refusal, or the length of the netted book.
+/// What netting gives: the refusal, or the length of the netted book and how many comparisons it
+/// takes.
 #[derive(Clone, Copy, Debug, Default, PartialEq, Eq)]
 pub struct Netted {
     pub refusal: Refusal,
     pub length: u64,
+    pub comparisons: u64,
 }
 
 /// What rows are netted by: their issue, or, where they have none, each row by itself.
@@ -120,7 +123,10 @@ pub fn netted(book: &[u8]) -> Result<Vec<u8>, Refusal> {
 
 /// Writes the netted book to the front of `out`; the bytes past it keep their values.
 pub fn net(book: &[u8], out: &mut [u8]) -> Netted {
-    let refused = |refusal| Netted { refusal, length: 0 };
+    let refused = |refusal| Netted {
+        refusal,
+        ..Netted::default()
+    };
     match netted(book) {
         Err(refusal) => refused(refusal),
         Ok(bytes) if out.len() < bytes.len() => refused(Refusal::of(12)),
@@ -129,6 +135,7 @@ pub fn net(book: &[u8], out: &mut [u8]) -> Netted {
             Netted {
                 refusal: Refusal::NONE,
                 length: bytes.len() as u64,
+                comparisons: comparisons(book),
             }
         }
     }

@@ -161,16 +161,16 @@ fn the_output_keeps_what_is_not_written() {
     for room in [24, 25, 40, 100] {
         let mut out = vec![0xa5; room];
         let done = net(&book, &mut out);
-        assert_eq!(done.entries(), [0, 0, 0, 24]);
+        assert_eq!(done.entries(), [0, 0, 0, 24, 1]);
         assert_eq!(out[..24], expected);
         assert!(out[24..].iter().all(|byte| *byte == 0xa5));
     }
     for room in [0, 7, 8, 23] {
         let mut out = vec![0xa5; room];
-        assert_eq!(net(&book, &mut out).entries(), [12, 0, 0, 0]);
+        assert_eq!(net(&book, &mut out).entries(), [12, 0, 0, 0, 0]);
         assert!(out.iter().all(|byte| *byte == 0xa5));
     }
-    assert_eq!(net(&[0; 8], &mut [9; 7]).entries(), [12, 0, 0, 0]);
-    assert_eq!(net(&[0; 8], &mut [9; 8]).entries(), [0, 0, 0, 8]);
+    assert_eq!(net(&[0; 8], &mut [9; 7]).entries(), [12, 0, 0, 0, 0]);
+    assert_eq!(net(&[0; 8], &mut [9; 8]).entries(), [0, 0, 0, 8, 0]);
     assert_eq!(net(&[], &mut []).refusal, Refusal::of(1));
 }

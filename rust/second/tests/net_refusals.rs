@@ -159,12 +159,15 @@ fn the_book_comes_before_and_the_output_after() {
     assert_eq!(refused(&[255; 8]), (2, 0));
     for room in [0, 7, 24, 40] {
         let mut out = vec![0xa5; room];
-        assert_eq!(net(&whole, &mut out).entries(), [13, 1, 0, 0]);
+        assert_eq!(net(&whole, &mut out).entries(), [13, 1, 0, 0, 0]);
         assert_eq!(
             net(&interest(&[most, most]), &mut out).entries(),
-            [14, 0, 0, 0]
+            [14, 0, 0, 0, 0]
         );
-        assert_eq!(net(&interest(&[bad[0]]), &mut out).entries(), [6, 0, 0, 0]);
+        assert_eq!(
+            net(&interest(&[bad[0]]), &mut out).entries(),
+            [6, 0, 0, 0, 0]
+        );
         assert!(out.iter().all(|byte| *byte == 0xa5));
     }
 }

@@ -19,8 +19,8 @@ pub trait Calls {
     fn small_bank(&self, book: &[u8], out: &mut [u64; 6]);
     /// Number, row, book; length.
     fn join(&self, a: &[u8], b: &[u8], out: &mut [u8], result: &mut [u64; 4]);
-    /// Number, row, book; length.
-    fn net(&self, book: &[u8], out: &mut [u8], result: &mut [u64; 4]);
+    /// Number, row, book; length; comparisons.
+    fn net(&self, book: &[u8], out: &mut [u8], result: &mut [u64; 5]);
     /// Document 01's table.
     fn table(&self, out: &mut [u8; 36]);
 }
@@ -50,7 +50,7 @@ impl Calls for Proved {
     fn join(&self, a: &[u8], b: &[u8], out: &mut [u8], result: &mut [u64; 4]) {
         raw::join(a, b, out, result);
     }
-    fn net(&self, book: &[u8], out: &mut [u8], result: &mut [u64; 4]) {
+    fn net(&self, book: &[u8], out: &mut [u8], result: &mut [u64; 5]) {
         raw::net(book, out, result);
     }
     fn table(&self, out: &mut [u8; 36]) {
@@ -90,7 +90,7 @@ impl Calls for Second {
         *result = second::join(a, b, out).entries();
     }
 
-    fn net(&self, book: &[u8], out: &mut [u8], result: &mut [u64; 4]) {
+    fn net(&self, book: &[u8], out: &mut [u8], result: &mut [u64; 5]) {
         *result = second::net(book, out).entries();
     }
 

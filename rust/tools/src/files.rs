@@ -103,11 +103,16 @@ pub fn apart(to: &Path, inputs: &[&Path]) -> Outcome {
     }
 }
 
+/// Whether a file is standard output, by whichever name.
+pub fn is_output(path: &Path) -> bool {
+    standard(path) || same(&fs::metadata(path).ok(), &about(io::stdout()))
+}
+
 /// Writes a file, or standard output for -.
 pub fn write(path: impl AsRef<Path>, bytes: &[u8]) -> Outcome {
     let path = path.as_ref();
     let there = fs::metadata(path).ok();
-    let done = if standard(path) || same(&there, &about(io::stdout())) {
+    let done = if is_output(path) {
         emit(bytes)
     } else if there.is_some_and(|file| !file.is_file()) {
         fs::write(path, bytes) // a device or a pipe stays what it is

@@ -59,6 +59,7 @@ fn lost_output_is_an_error() {
         "unpack x.book -",
         "join x.book x.book -",
         "net x.book -",
+        "net x.book net.book --comparisons",
         "report x.book",
         "report x.book --currencies",
         "ladder x.book --currency 7",

@@ -146,12 +146,71 @@ fn wrong_command_lines_and_files() {
     let book = packed("netting", "words");
     assert!(fails(2, &["net", &book]).contains("1 files given where 2 are wanted"));
     assert!(fails(2, &["net", &book, &book]).contains("are one file"));
-    for option in ["--table", "--currency", "--unchecked"] {
+    for option in ["--table", "--currency", "--unchecked", "--comparison"] {
         let told = fails(2, &["net", &book, "x", option]);
         assert!(told.contains(&format!("no option '{option}'")), "{told}");
     }
     let out = temporary("words.netted");
     assert!(fails(2, &["net", &temporary("no-book"), &out]).contains("no-book: "));
     let help = prints(&["net", "--help"]);
-    assert!(help.starts_with("market-risk net BOOK OUT\n"), "{help}");
+    assert!(
+        help.starts_with("market-risk net BOOK OUT [--comparisons]\n"),
+        "{help}"
+    );
+}
+
+/// Catches a count of other rows or a bound of other rows, one that is printed without being asked
+/// for, and one that hinders the book.
+#[test]
+fn comparisons_are_printed_with_the_most_that_there_can_be() {
+    let rows = |name: &str, issues: &[u16]| {
+        let issues = issues.iter();
+        let lines: Vec<String> = issues
+            .map(|issue| format!("fx,1,none,0,0,{issue},1,0"))
+            .collect();
+        let lines: Vec<&str> = lines.iter().map(String::as_str).collect();
+        book(name, &lines)
+    };
+    let all: Vec<u16> = (1..=4_000).collect();
+    for (name, issues, line) in [
+        ("counted-1", &[1, 1, 2][..], "2 of at most 3"),
+        ("counted-2", &[1, 2, 2], "3 of at most 3"),
+        ("counted-3", &[0, 0, 0, 0], "0 of at most 6"),
+        ("counted-4", &all, "7,998,000 of at most 7,998,000"),
+    ] {
+        let (from, to) = (rows(name, issues), temporary(&format!("{name}.netted")));
+        let printed = prints(&["net", &from, &to, "--comparisons"]);
+        assert_eq!(printed, format!("comparisons {line}\n"));
+        let lines = netted(&from);
+        assert_eq!(fs::read(&to).unwrap().len(), 8 + 16 * lines.len());
+    }
+    let sample = packed("netting", "count");
+    let out = temporary("count.netted");
+    let printed = prints(&["net", "--comparisons", &sample, &out]);
+    assert_eq!(printed, "comparisons 5 of at most 28\n");
+    let empty = packed("empty", "count");
+    let printed = prints(&["net", &empty, &out, "--comparisons"]);
+    assert_eq!(printed, "comparisons 0 of at most 0\n");
+}
+
+/// Catches a line behind the bytes of a book on standard output, by either name, or beside a
+/// refusal.
+#[test]
+fn comparisons_are_not_mixed_with_a_book() {
+    let sample = packed("netting", "mixed");
+    for out in ["-", "/dev/stdout"] {
+        let told = fails(2, &["net", &sample, out, "--comparisons"]);
+        let why = "net: --comparisons prints on standard output, where the netted book goes";
+        assert!(told.contains(why), "{told}");
+        assert!(run(&["net", &sample, out, "--comparisons"])
+            .stdout
+            .is_empty());
+    }
+    let bad = temporary("uncounted.book");
+    fs::write(&bad, &fs::read(&sample).unwrap()[..40]).unwrap();
+    let out = temporary("uncounted.netted");
+    let plain = fails(1, &["net", &bad, &out]);
+    assert_eq!(fails(1, &["net", &bad, &out, "--comparisons"]), plain);
+    assert!(run(&["net", &bad, &out, "--comparisons"]).stdout.is_empty());
+    assert!(fs::metadata(&out).is_err());
 }

@@ -76,7 +76,7 @@ fn null_with_length_0_is_a_file_of_no_bytes() {
             market_risk_commodity_ladder(null(), 0, 7, out)
         }),
         (6, &|out| unsafe { market_risk_small_bank(null(), 0, out) }),
-        (4, &|out| unsafe {
+        (5, &|out| unsafe {
             market_risk_net(null(), 0, null_mut(), 0, out)
         }),
     ];
@@ -121,7 +121,7 @@ fn null_books_and_a_null_output_are_joined() {
 /// Catches netting that writes to a null output, which has no room for a book without rows.
 #[test]
 fn a_null_output_has_no_room() {
-    let calls: [Call; 1] = [(4, &|out| unsafe {
+    let calls: [Call; 1] = [(5, &|out| unsafe {
         market_risk_net(EMPTY.as_ptr(), EMPTY.len(), null_mut(), 0, out)
     })];
     refused_with(12, &calls);

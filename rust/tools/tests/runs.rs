@@ -35,7 +35,8 @@ fn a_short_benchmark_prints_every_line() {
         ("commodity ladder", 9),
         ("small bank", 7),
         ("join", 9),
-        ("net", 8),
+        // The last of its lines is the time of a comparison.
+        ("net", 9),
     ];
     assert_eq!(tables.len(), calls.len());
     for (table, (call, lines)) in tables.iter().zip(calls) {
@@ -43,4 +44,9 @@ fn a_short_benchmark_prints_every_line() {
         assert!(table.contains("proved / Rust"), "{table}");
         assert_eq!(table.lines().count(), 1 + lines, "{table}");
     }
+    let last = text.lines().last().unwrap();
+    let beginning = "each of 7,998,000 comparisons, 4,000 rows of as many issues: proved ";
+    assert!(last.starts_with(beginning), "{last}");
+    assert!(last.contains(" ns, Rust 0."), "{last}");
+    assert_eq!(text.matches("comparisons").count(), 1, "{text}");
 }

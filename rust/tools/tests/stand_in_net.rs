@@ -1,5 +1,5 @@
-//! The command over a library that nets wrongly or refuses issues in the wrong way, which it must
-//! notice.
+//! The command over a library that nets wrongly, refuses issues in the wrong way or counts
+//! comparisons wrongly, which it must notice.
 
 mod common;
 mod stand_in_library;
@@ -73,4 +73,51 @@ fn compare_fails_with_each_fault_of_netting() {
         assert!(told.starts_with(&format!("net{BY}")), "{fault}: {told}");
         assert!(told.contains(first), "{fault}: {told}");
     }
+}
+
+/// Catches a count that is printed without a look at it, or that fails though it is right: the
+/// sample takes 5.
+#[test]
+fn net_fails_with_a_wrong_count() {
+    let (book, out) = (packed("netting", "counted"), temporary("counted.netted"));
+    fs::write(&out, "old").unwrap();
+    for (fault, count) in [
+        ("none_compared", 0),
+        ("one_more_compared", 6),
+        ("equal_not_counted", 2),
+        ("every_two_compared", 7),
+    ] {
+        let why = format!("the library made {count} comparisons, by the book there are 5\n");
+        for words in [
+            &["net", &book, &out][..],
+            &["net", &book, &out, "--comparisons"],
+        ] {
+            let error = fails(fault, words);
+            let told = format!("netting.book: {why}");
+            assert!(error.ends_with(&told), "{fault}: {error}");
+            assert_eq!(fs::read(&out).unwrap(), b"old", "{fault}");
+        }
+    }
+    let right = run("none", &["net", &book, &out, "--comparisons"]);
+    assert_eq!(right.stdout, b"comparisons 5 of at most 28\n");
+}
+
+/// Catches a comparison without this figure, or with it in some books alone; the last is told of
+/// one row, by the bound, where there is no room.
+#[test]
+fn compare_fails_with_each_wrong_count() {
+    for (fault, wrong, right) in [
+        ("none_compared", 0, 1),
+        ("equal_not_counted", 0, 1),
+        ("every_two_compared", 3, 2),
+        ("classes_compared", 1, 0),
+        ("count_kept", 1, 0),
+    ] {
+        let told = told_within("2000", "net", fault);
+        let expected = format!("net{BY}entry 4 is {wrong} and {right}");
+        assert_eq!(told, expected, "{fault}");
+    }
+    let told = told_of("net", "one_more_compared");
+    assert!(told.starts_with("netting: book "), "{told}");
+    assert!(told.ends_with(" comparisons, over 0"), "{told}");
 }

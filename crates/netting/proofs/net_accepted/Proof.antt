@@ -12,7 +12,7 @@ use Rattle.netting.proofs.Answers.{refused-issues, turned-away}
 use Rattle.netting.proofs.net_accepted.Statement.{statement}
 use Rattle.netting.proofs.net_accepted.Tie as tie
 
-module _ {s : List ℕ} (ok : Accepted s) {r : Refusal} {longs shorts : List ℕ} (settled : Settled s r longs shorts) where
+module _ {s : List ℕ} (ok : Accepted s) {r : Refusal} {compared : ℕ} {longs shorts : List ℕ} (settled : Settled s r compared longs shorts) where
   found : issuesRefusal s ≡ r
   found = refused-issues s ok ∙ sym (settled .is)
 
@@ -21,16 +21,17 @@ module _ {s : List ℕ} (ok : Accepted s) {r : Refusal} {longs shorts : List ℕ
 
 returns : tie.Need-returns
 returns c =
-    let settle = c .before .before .before in
+    let settle = c .before .before .before .before in
     let start = settle .before .before .before .before .before in
     let answers = turned-away (start .args .book .now) (start .args .out .now) _ (found (start .pre .1) (settle .settle .ensures)) (c .before .if1 .taken) in
     (c .refused .ensures ∙ answers .is, answers .output)
 
 write-netted-requires : tie.Need-write-netted-requires
 write-netted-requires c κs =
-    let settle = c .before .before .before .before .before in
+    let settle = c .before .before .before .before .before .before in
     let start = settle .before .before .before .before .before in
-    (start .pre .0, can (start .pre .1) (settle .settle .ensures) (c .before .before .before .if1 .left))
+    let none = c .before .before .before .if1 .left in
+    (start .pre .0, can (start .pre .1) (settle .settle .ensures) none, settle .settle .ensures .is-compared none)
 
 pub net-accepted-spec : {M : Type 1} → statement M
 net-accepted-spec =

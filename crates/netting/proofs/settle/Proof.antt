@@ -14,37 +14,39 @@ use Rattle.netting.proofs.Answers.{or-first, or-next}
 use Rattle.netting.proofs.settle.Statement.{statement}
 use Rattle.netting.proofs.settle.Tie as tie
 
-module _ {s : List ℕ} {differing : Refusal} {longs shorts : List ℕ} (gathered : GatheredBook s differing longs shorts) where
-  by-13 : (differing .number ≡ 0 → ⊥) → Settled s differing longs shorts
+module _ {s : List ℕ} {differing : Refusal} {compared : ℕ} {longs shorts : List ℕ} (gathered : GatheredBook s differing compared longs shorts) where
+  by-13 : (differing .number ≡ 0 → ⊥) → Settled s differing compared longs shorts
   by-13 some =
       record {
         is = sym (rw (← gathered .is) (or-first differing _ some));
+        is-compared = gathered .is-compared;
         nets = λ none. absurd (some none);
       }
 
   by-14 : Accepted s → differing .number ≡ 0 → (r : Refusal)
-      → r ≡ firstNumber 14 (λ k. isOver (positionsIn longs shorts k)) 0 (rowCount (countsOf s)) → Settled s r longs shorts
+      → r ≡ firstNumber 14 (λ k. isOver (positionsIn longs shorts k)) 0 (rowCount (countsOf s)) → Settled s r compared longs shorts
   by-14 ok none r is =
       let holds = gathered .holds none in
       record {
         is = is ∙ over-found s ok longs shorts holds ∙ sym (rw (← gathered .is) (or-next differing _ none));
+        is-compared = λ e. gathered .is-compared none;
         nets = λ e. record { holds = holds; within = nets-within s ok longs shorts holds (rw is at e) };
       }
 
 returns : tie.Need-returns
-returns c = by-13 (c .before .before .gather-book .ensures) (c .if1 .taken)
+returns c = by-13 (c .before .before .before .gather-book .ensures) (c .if1 .taken)
 
 -- the rows are the book's
-rows-are : (c : tie.After-rows) → c .rows .result ≡ rowCount (countsOf (c .before .before .before .before .before .before .before .before .before .args .book .now))
-rows-are c = c .rows .ensures .0 ∙ ap rowCount (c .before .before .before .before .before .before .before .before .before .pre .0)
+rows-are : (c : tie.After-rows) → c .rows .result ≡ rowCount (countsOf (c .before .before .before .before .before .before .before .before .before .before .args .book .now))
+rows-are c = c .rows .ensures .0 ∙ ap rowCount (c .before .before .before .before .before .before .before .before .before .before .pre .0)
 
 first-over-requires : tie.Need-first-over-requires
-first-over-requires c κs = omega (arith, rows-are c, c .before .before .before .before .before .before .before .before .before .pre .1 .few)
+first-over-requires c κs = omega (arith, rows-are c, c .before .before .before .before .before .before .before .before .before .before .pre .1 .few)
 
 returns-2 : tie.Need-returns-2
 returns-2 c =
     let rows = c .before in
-    let gather = c .before .before .before .before .before .before in
+    let gather = c .before .before .before .before .before .before .before in
     let start = gather .before .before .before .before in
     by-14 (gather .gather-book .ensures) (start .pre .1) (c .before .before .before .before .if1 .left) _
     (c .first-over .ensures ∙ ap (firstNumber 14 (λ k. isOver (positionsIn (gather .gather-book .last .1 .1 .0) (gather .gather-book .last .1 .1 .1 .0) k)) 0) (rows-are rows))

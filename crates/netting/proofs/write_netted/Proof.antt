@@ -1,5 +1,5 @@
 -- `netting::write_netted` meets its contract: the counts and the bodies make the netted book, if it fits.
-use mathlib.Core.Path.{_≡_, ap, _∙_}
+use mathlib.Core.Path.{_≡_, ap, ap₂, _∙_}
 use mathlib.Core.List.{List, flatMap}
 use Prim.Native.Nat.{ℕ, _+_, _*_, _≤_, _<_}
 use native.Mathlib.Omega.{arith}
@@ -16,7 +16,7 @@ use Rattle.layout.specs.Written.{written}
 use Rattle.layout.specs.Files.{contentsBytes}
 use Rattle.layout.proofs.Writing.{written-length}
 use Rattle.layout.proofs.Whole.{contents-length}
-use Rattle.netting.specs.Netted.{nettedBook}
+use Rattle.netting.specs.Netted.{Netted, nettedBook, comparisonsOf}
 use Rattle.netting.specs.Inner.Nets.{positionsIn, leftCounts}
 use Rattle.netting.specs.Inner.Writing.{settledBody, CanWrite, CanBeWritten, refusedNetting}
 use Rattle.netting.proofs.Outcome.{size-is, bodies-size, writes-whole}
@@ -29,6 +29,10 @@ part-count : (s : List ℕ) → length s ≡ contentsSize + rowSize * rowCount (
     → length (rowsIn (bodyBy (countsOf s) s class)) ≡ countIn (countsOf s) class
 unfolding rowsOf bodyOf
 part-count s sized class = class-count s sized class
+
+-- an answer with so many rows
+abbrev netted : ℕ → Refusal → ℕ → Netted
+netted rows refusal compared = record { refusal = refusal; length = 8 + 16 * rows; comparisons = compared }
 
 -- the contents leave the output as long as it was
 contents-room : (out : List ℕ) (left : Counts) → contentsSize ≤ length out → length (written out 0 (contentsBytes left)) ≡ length out
@@ -64,7 +68,7 @@ module _ (s longs shorts : List ℕ) (can : CanBeWritten s longs shorts) (counts
   done : (out : List ℕ) (left : Counts) (rows : ℕ) → left ≡ leftCounts (positionsIn longs shorts) counts → rows ≡ rowCount left → 8 + 16 * rows ≤ length out
       → {out′ after : List ℕ} → out′ ≡ written out 0 (contentsBytes left)
       → after ≡ written out′ contentsSize (flatMap (settledBody (positionsIn longs shorts) counts s) classes)
-      → Answers s out (record { refusal = refused 0 0; length = 8 + 16 * rows }) after
+      → Answers s out (netted rows (refused 0 0) (comparisonsOf s)) after
   done out left rows is-left is-rows h contents bodies =
       let room : length (nettedBook s) ≤ length out = omega (arith, size rows is-left is-rows) in
       let whole = writes-whole s (can .accepted) longs shorts (can .nets .holds) out room in
@@ -98,7 +102,8 @@ returns-2 c =
     let room = c .before .before .before .before .before .before .before .before .before .if1 .left in
     let answers = done _ _ _ (start .pre .1) _ (start .pre .0) (start .args .out .now) _ _ (rows .before .left-counts .ensures) (rows .rows .ensures .0) room
     (c .before .before .before .before .before .before .before .write-contents .ensures) (c .before .before .before .write-bodies .ensures) in
-    (ap (λ (refusal : Refusal). record { refusal = refusal; length = 8 + 16 * rows .rows .result }) (c .refused3 .ensures) ∙ answers .is, answers .output)
+    let given = ap₂ (netted (rows .rows .result)) (c .refused3 .ensures) (start .pre .2) in
+    (given ∙ answers .is, answers .output)
 
 pub write-netted-spec : {M : Type 1} → statement M
 write-netted-spec =

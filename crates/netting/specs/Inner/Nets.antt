@@ -15,7 +15,7 @@ use Rattle.book.specs.Refusals.{mostAmount, refused}
 use Rattle.ladder.specs.declared.positions.Position.{Position}
 use Rattle.ladder.specs.Position.{Bands, net, absoluteNet}
 use Rattle.issues.specs.Issues.{placed}
-use Rattle.netting.specs.Netted.{differingRefusal, overRefusal, orNext}
+use Rattle.netting.specs.Netted.{differingRefusal, overRefusal, orNext, comparisonsOf}
 use Rattle.netting.specs.Inner.Gathering.{Holds}
 
 -- the position at each number
@@ -61,7 +61,8 @@ pub record NetsOf (s longs shorts : List ℕ) : Type 0 where
   pub holds : (class : ℕ) → 1 ≤ class → class ≤ 4 → Holds (rowsBefore (countsOf s) class) (ofClass class (legsOf s)) longs shorts
   pub within : (k : ℕ) → k < rowCount (countsOf s) → absoluteNet (positionsIn longs shorts k) ≤ mostAmount
 
--- 13, then 14, or all zero and the nets
-pub record Settled (s : List ℕ) (r : Refusal) (longs shorts : List ℕ) : Type 0 where
+-- 13, then 14, or all zero, the comparisons made and the nets
+pub record Settled (s : List ℕ) (r : Refusal) (compared : ℕ) (longs shorts : List ℕ) : Type 0 where
   pub is : r ≡ orNext (differingRefusal (legsOf s)) (overRefusal (legsOf s))
+  pub is-compared : r .number ≡ 0 → compared ≡ comparisonsOf s
   pub nets : r .number ≡ 0 → NetsOf s longs shorts

@@ -50,4 +50,4 @@ pub record CanBeWritten (s longs shorts : List ℕ) : Type 0 where
 
 -- a refusal: nothing is written
 unfoldable pub refusedNetting : Refusal → Netted
-refusedNetting refusal = record { refusal = refusal; length = 0 }
+refusedNetting refusal = record { refusal = refusal; length = 0; comparisons = 0 }

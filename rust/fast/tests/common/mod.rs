@@ -55,7 +55,7 @@ pub fn compare_join(a: &[u8], b: &[u8], room: usize) -> u64 {
 /// Compares netting into so many bytes and gives its refusal's number.
 pub fn compare_net(book: &[u8], room: usize) -> u64 {
     let (mut out, mut second_out) = (vec![0x55; room], vec![0x55; room]);
-    let mut result = [OLD; 4];
+    let mut result = [OLD; 5];
     fast::net(book, &mut out, &mut result);
     let netted = second::net(book, &mut second_out);
     assert_eq!(result, netted.entries(), "{book:?}");

@@ -46,10 +46,10 @@ where
 /// holds what it held before.
 pub fn expected_of_outputs<F>(case: &Case, call: F) -> Rc<[Answer]>
 where
-    F: Fn(&[u8], &mut [u8], &mut [u64; 4]),
+    F: Fn(&[u8], &mut [u8], &mut [u64; 5]),
 {
     let answer = |book: &Vec<u8>| {
-        let mut entries = [0; 4];
+        let mut entries = [0; 5];
         let mut output = vec![OLD_BYTE; book.len()];
         call(book, &mut output, &mut entries);
         Answer {

@@ -17,9 +17,9 @@ pub fn copy(a: &[u8], b: &[u8], out: &mut [u8], result: &mut [u64; 4]) {
 }
 
 /// A book's bytes.
-pub fn copy_book(book: &[u8], out: &mut [u8], result: &mut [u64; 4]) {
+pub fn copy_book(book: &[u8], out: &mut [u8], result: &mut [u64; 5]) {
     out.copy_from_slice(book);
-    *result = [0, 0, 0, out.len() as u64];
+    *result = [0, 0, 0, out.len() as u64, 0];
 }
 
 /// The sum of words, byte by byte.
@@ -39,7 +39,7 @@ pub fn copy_bytes(a: &[u8], b: &[u8], out: &mut [u8], result: &mut [u64; 4]) {
 }
 
 /// The copy of a book, byte by byte.
-pub fn copy_book_bytes(book: &[u8], out: &mut [u8], result: &mut [u64; 4]) {
+pub fn copy_book_bytes(book: &[u8], out: &mut [u8], result: &mut [u64; 5]) {
     let count = out.iter_mut().zip(book).map(|(to, from)| *to = *from);
-    *result = [0, 0, 0, count.count() as u64];
+    *result = [0, 0, 0, count.count() as u64, 0];
 }

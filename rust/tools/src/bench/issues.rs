@@ -4,6 +4,9 @@ use super::cases::{count, Case, Whose};
 use books::generate::{row, Shape};
 use books::{Book, Random, Row};
 
+/// The line whose rows are all of different issues, 4,000 of them.
+pub const ALL_APART: &str = "4,000 issues";
+
 /// The sorts: their names, their rows and their issues. A row of each issue comes first, then the
 /// numbers are drawn.
 const SORTS: [(&str, usize, u16); 7] = [
@@ -13,7 +16,7 @@ const SORTS: [(&str, usize, u16); 7] = [
     ("40 issues", 40, 40),
     ("1 issue", 4_000, 1),
     ("60 issues", 4_000, 60),
-    ("4,000 issues", 4_000, 4_000),
+    (ALL_APART, 4_000, 4_000),
 ];
 
 /// The rows of a book: each like the others of its issue, with a small amount on either side.
@@ -100,6 +103,23 @@ mod tests {
                 assert!(!numbers.contains(&0));
                 assert!(second::netted(bytes).is_ok());
             }
+        }
+    }
+
+    /// Catches a line by which a comparison is timed and whose books take fewer of them.
+    #[test]
+    fn books_of_different_issues_take_every_comparison() {
+        let cases = cases();
+        let [apart] = &cases
+            .iter()
+            .filter(|case| case.name == ALL_APART)
+            .collect::<Vec<_>>()[..]
+        else {
+            panic!("not one line");
+        };
+        assert_eq!(apart.rows, 4_000);
+        for bytes in &apart.books {
+            assert_eq!(second::comparisons(bytes), 7_998_000);
         }
     }
 

@@ -37,7 +37,8 @@ rounds in nanoseconds, and ratios, proved / other. Below 1 the proved library is
 The books lie in memory: without rows, of one class, of all classes, and refused at the last
 row; those of the small bank have foreign exchange and commodities alone, and those of netting
 interest rows of so many issues. Charges and interest ladders are under document 01's table, and
-in one line more under another. A join is of two books with half the rows each; ladders are of
+in one line more under another. The last line of all tells what one comparison takes where all
+rows are of different issues: the time of the call, by the comparisons. A join is of two books with half the rows each; ladders are of
 each group in turn. Before the timing every result is compared with that of the second
 calculation, and after each measurement the last one. Outputs are not cleared between calls.
 

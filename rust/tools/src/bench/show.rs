@@ -1,9 +1,11 @@
 //! The tables of a run.
 
 use super::cases::Case;
+use super::issues::ALL_APART;
 use super::sides::Call;
 use super::timed::{Clock, Timed};
 use crate::cli::Failure;
+use crate::net::bound;
 use crate::text::{table, whole};
 
 /// One line: a case, and all that is timed on it, the proved library first.
@@ -57,12 +59,29 @@ impl<'a> Table<'a> {
         self.each(|timed| timed.round(clock))
     }
 
-    /// The table as text: times of one call in nanoseconds, then ratios.
+    /// The table as text: times of one call in nanoseconds, then ratios; below it what a
+    /// comparison takes where nearly all of the time is comparing.
     pub fn text(&self) -> String {
         let mut lines = vec![titles(self.call, &self.lines[0].timed)];
         lines.extend(self.lines.iter().map(cells));
-        table(&lines)
+        let apart = self.lines.iter().filter(|line| line.book == ALL_APART);
+        table(&lines) + &apart.map(per_comparison).collect::<String>()
     }
+}
+
+/// The time of a comparison by each name that makes any: each row is of another issue, and is
+/// compared with all before it.
+fn per_comparison(line: &Line) -> String {
+    let (rows, made) = (whole(line.rows as i128), bound(line.rows));
+    let comparing = line.timed.iter().filter(|side| side.name != "copy");
+    let times: Vec<String> = comparing
+        .map(|side| format!("{} {:.3} ns", side.name, side.median() / made as f64))
+        .collect();
+    let made = whole(made);
+    format!(
+        "each of {made} comparisons, {rows} rows of as many issues: {}\n",
+        times.join(", ")
+    )
 }
 
 /// The head of a table.

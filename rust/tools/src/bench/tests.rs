@@ -3,6 +3,7 @@
 
 use super::cases::{cases, Case};
 use super::fake::{answer, expected, World};
+use super::issues::ALL_APART;
 use super::show::{Line, Table};
 use super::sides::{Call, CALLS};
 use super::timed::{Clock, Timed};
@@ -96,6 +97,38 @@ fn ratios_are_proved_by_other() {
     let titles = ["call", "rows", "proved ns", "other ns", "proved / other"];
     assert_eq!(lines[0], titles);
     assert_eq!(lines[1], ["any", "4,000", "300.0", "100.0", "3.00"]);
+}
+
+/// Catches a comparison's time that is of another line, of all rounds, or of the copy.
+#[test]
+fn a_comparison_s_time_is_that_of_its_line() {
+    let world = World::default();
+    let clock: Clock = &|| Duration::from_nanos(world.now.get());
+    let line = |book: &'static str, times: [u64; 3]| Line {
+        book,
+        rows: 5,
+        timed: vec![
+            world.timed("proved", times[0]),
+            world.timed("Rust", times[1]),
+            world.timed("copy", times[2]),
+        ],
+    };
+    let mut table = Table {
+        call: "net",
+        lines: vec![
+            line("60 issues", [900, 800, 700]),
+            line(ALL_APART, [30, 15, 7]),
+        ],
+    };
+    table.settle(clock).unwrap();
+    table.round(clock).unwrap();
+    let text = table.text();
+    // 5 rows of different issues take 10 comparisons.
+    let last = "each of 10 comparisons, 5 rows of as many issues: proved 3.000 ns, Rust 1.500 ns";
+    assert_eq!(text.lines().last(), Some(last));
+    assert_eq!(text.lines().count(), 4);
+    table.lines.truncate(1);
+    assert!(!table.text().contains("comparisons"));
 }
 
 /// The first case that a call is timed on.

@@ -172,16 +172,16 @@ struct OfOutput<'a, F> {
     books: &'a [Vec<u8>],
     call: F,
     output: Vec<u8>,
-    entries: [u64; 4],
+    entries: [u64; 5],
 }
 
-impl<F: Fn(&[u8], &mut [u8], &mut [u64; 4])> Work for OfOutput<'_, F> {
+impl<F: Fn(&[u8], &mut [u8], &mut [u64; 5])> Work for OfOutput<'_, F> {
     fn run(&mut self, at: usize) {
         (self.call)(pick(self.books, at), &mut self.output, &mut self.entries);
         black_box((&mut self.entries, &mut self.output));
     }
     fn forget(&mut self) {
-        self.entries = [OLD_ENTRY; 4];
+        self.entries = [OLD_ENTRY; 5];
         self.output.fill(OLD_BYTE);
     }
     fn answer(&self) -> Answer {
@@ -198,12 +198,12 @@ impl<F: Fn(&[u8], &mut [u8], &mut [u64; 4])> Work for OfOutput<'_, F> {
 /// A call on a book and an output that is as long.
 pub fn of_output<'a, F>(books: &'a [Vec<u8>], call: F) -> Box<dyn Work + 'a>
 where
-    F: Fn(&[u8], &mut [u8], &mut [u64; 4]) + 'a,
+    F: Fn(&[u8], &mut [u8], &mut [u64; 5]) + 'a,
 {
     Box::new(OfOutput {
         books,
         call,
         output: vec![OLD_BYTE; books[0].len()],
-        entries: [OLD_ENTRY; 4],
+        entries: [OLD_ENTRY; 5],
     })
 }

@@ -3,7 +3,7 @@
 use super::e4::{add_e4, add_e4_issue};
 use books::damage::{damage, damage_note};
 use books::generate::{book, interest_book, interest_rows, ladder_book, Shape};
-use books::issues::{spoil, Issues};
+use books::issues::{many, spoil, Issues};
 use books::small::{slip_in, small_book};
 use books::tables::random::{accepted, broken, nudged, of_wrong_length, WAYS};
 use books::{Random, ROW_BYTES};
@@ -174,6 +174,18 @@ fn books_of_issues(random: &mut Random, table: &[u8]) -> [Vec<u8>; 2] {
     })
 }
 
+/// Two books of very many issues, whose comparisons pass 16 bits.
+fn books_of_many_issues(random: &mut Random) -> [Vec<u8>; 2] {
+    let shape = Shape::new(random, 0);
+    let few = [[400, 30], [450, 0], [500, 1], [600, 400], [800, 90]];
+    let full = [[1_500, 0], [4_000, 0]];
+    let sizes = if random.once_in(4) { &full[..] } else { &few };
+    random.pick(sizes).map(|rows| {
+        let book = many(random, &shape, rows);
+        book.encode().expect("at most 4,000 rows")
+    })
+}
+
 /// A table: mostly an accepted one, often document 01's; else with one condition broken by one,
 /// with one byte changed, or of a wrong length.
 fn table(random: &mut Random) -> Vec<u8> {
@@ -190,12 +202,14 @@ fn table(random: &mut Random) -> Vec<u8> {
 }
 
 impl Case {
-    /// The case with this number of a seed. Every fourth is about issues.
+    /// The case with this number of a seed. Every fourth is about issues, every hundredth about
+    /// very many of them.
     pub fn new(seed: u64, number: u64) -> Case {
         // The table has a stream of its own.
         let table = table(&mut Random::of_case(!seed, number));
         let mut random = Random::of_case(seed, number);
         let [a, b] = match random.below(18) {
+            _ if number % 100 == 99 => books_of_many_issues(&mut random),
             _ if number % 4 == 3 => books_of_issues(&mut random, &table),
             0 | 1 => books_of_currencies(&mut random, &table),
             2 | 3 => books_of_notes(&mut random),

@@ -42,20 +42,23 @@ fn both<const N: usize>(
 }
 
 /// An output of so many bytes, between guards, and the result of a call that writes to it.
-fn output(room: usize, run: impl Fn(&mut [u8], &mut [u64; 4])) -> (Vec<u8>, [u64; 4]) {
+fn output<const N: usize>(
+    room: usize,
+    run: impl Fn(&mut [u8], &mut [u64; N]),
+) -> (Vec<u8>, [u64; N]) {
     let pattern = |at: usize| (at * 7 + 0xa5) as u8;
     let mut bytes: Vec<u8> = (0..room + 2 * GUARD).map(pattern).collect();
-    let mut result = [MARK; 4];
+    let mut result = [MARK; N];
     run(&mut bytes[GUARD..GUARD + room], &mut result);
     (bytes, result)
 }
 
 /// Writes with both calculations and compares all results and all bytes.
-fn writing(
+fn writing<const N: usize>(
     call: &str,
     calculations: [&dyn Calls; 2],
     room: usize,
-    run: impl Fn(&dyn Calls, &mut [u8], &mut [u64; 4]),
+    run: impl Fn(&dyn Calls, &mut [u8], &mut [u64; N]),
 ) -> Option<String> {
     let [(ours, result), (theirs, expected)] =
         calculations.map(|calculation| output(room, |out, result| run(calculation, out, result)));

@@ -168,7 +168,7 @@ impl Calls for Faulty {
         }
     }
 
-    fn net(&self, book: &[u8], out: &mut [u8], result: &mut [u64; 4]) {
+    fn net(&self, book: &[u8], out: &mut [u8], result: &mut [u64; 5]) {
         Second.net(book, out, result);
     }
 

@@ -1,5 +1,6 @@
 //! What a run must have seen at least.
 
+use super::comparisons::Comparisons;
 use super::floating::Floating;
 use super::net_joins::NetJoins;
 use super::nets::Nets;
@@ -65,6 +66,9 @@ const LEAST: Tally = Tally {
         fields: [100, 36, 39, 18, 10],
         orders: [50, 47, 63, 30, 15, 64, 41],
         rooms: [1_650, 1_250, 555],
+    },
+    comparisons: Comparisons {
+        sorts: [675, 270, 160, 26, 850, 330, 30, 1_070],
     },
     net_joins: NetJoins {
         cheaper: 350,
@@ -268,6 +272,9 @@ mod tests {
             let name = format!("nets refused {number}: ");
             alone(&|tally| &mut tally.nets.refused[number], &name);
         }
+        for at in 0..LEAST.comparisons.sorts.len() {
+            alone(&|tally| &mut tally.comparisons.sorts[at], "comparisons ");
+        }
         alone(&|tally| &mut tally.net_joins.cheaper, "cheaper when netted");
         alone(
             &|tally| &mut tally.net_joins.joins,
@@ -284,7 +291,7 @@ mod tests {
         let nothing = Tally::default();
         assert_eq!(
             nothing.lacking(20_000).len(),
-            12 + 9 + 18 + 10 + 12 + 21 + 39
+            12 + 9 + 18 + 10 + 12 + 21 + 47
         );
         assert!(LEAST.lacking(20_100).len() > 10);
         let half = nothing.lacking(10_000);
@@ -292,7 +299,7 @@ mod tests {
         // Few cases may miss the rarest, and very few may miss anything.
         assert_eq!(
             nothing.lacking(9_999).len(),
-            12 + 9 + 18 + 10 + 11 + 20 + 34
+            12 + 9 + 18 + 10 + 11 + 20 + 42
         );
         assert_eq!(nothing.lacking(41), [""; 0]);
     }

@@ -1,4 +1,5 @@
-//! Netting with a wrong reading, put in on purpose; all other calls are the second calculation's.
+//! Netting, or the count of its comparisons, with a wrong reading, put in on purpose; all other calls
+//! are the second calculation's.
 
 use super::net_readings::Wrong;
 use crate::calls::{Calls, Second};
@@ -31,11 +32,11 @@ impl Calls for Misread {
     fn join(&self, a: &[u8], b: &[u8], out: &mut [u8], result: &mut [u64; 4]) {
         Second.join(a, b, out, result);
     }
-    fn net(&self, book: &[u8], out: &mut [u8], result: &mut [u64; 4]) {
+    fn net(&self, book: &[u8], out: &mut [u8], result: &mut [u64; 5]) {
         match self.wrong.net(book, out.len()) {
             Ok(netted) => {
                 out[..netted.len()].copy_from_slice(&netted);
-                *result = [0, 0, 0, netted.len() as u64];
+                *result = [0, 0, 0, netted.len() as u64, 0];
                 let rest = &mut out[netted.len()..];
                 match self.wrong {
                     Wrong::Cleared => rest.fill(0),
@@ -51,6 +52,10 @@ impl Calls for Misread {
                     _ => (),
                 }
             }
+        }
+        let count = self.wrong.count();
+        if count.given(result[0]) {
+            result[4] = count.of(book);
         }
     }
     fn table(&self, out: &mut [u8; 36]) {

@@ -185,7 +185,7 @@ impl Calls for Misread {
     fn join(&self, a: &[u8], b: &[u8], out: &mut [u8], result: &mut [u64; 4]) {
         Second.join(a, b, out, result);
     }
-    fn net(&self, book: &[u8], out: &mut [u8], result: &mut [u64; 4]) {
+    fn net(&self, book: &[u8], out: &mut [u8], result: &mut [u64; 5]) {
         Second.net(book, out, result);
     }
     fn table(&self, out: &mut [u8; 36]) {

@@ -2,6 +2,9 @@
 
 mod case;
 mod check;
+mod comparisons;
+#[cfg(test)]
+mod count_readings;
 mod cuts;
 mod e4;
 #[cfg(test)]
@@ -41,6 +44,8 @@ mod tally;
 #[cfg(test)]
 mod tests;
 #[cfg(test)]
+mod wrong_counts;
+#[cfg(test)]
 mod wrong_ladders;
 #[cfg(test)]
 mod wrong_net;
@@ -72,7 +77,8 @@ foreign exchange and commodities alone cost the same reordered and mirrored, and
 most what they cost apart, in each figure of the small bank and whatever they hold. A netted
 book is accepted, stays as it is when it is netted again, and costs at most what the book costs;
 and with at most two zones used in each currency before netting, a netted join costs at most its
-two netted books together. In every fourth pair rows share issue numbers.
+two netted books together. Netting takes at most n(n - 1)/2 comparisons of n rows. In every
+fourth pair rows share issue numbers.
 
 On a difference it prints the smallest books that it can find, in hex and as CSV, with the
 table next to document 01's, and stops with exit status 1. It also fails when the pairs
@@ -87,7 +93,8 @@ by the ladder, joined, joined for less, and refused with each number, with 20 in
 before bad rows and after 2 and 3, and netted books, of each sort of issue, into outputs that are
 just long enough, longer and one byte short, refused with each number, with 13 for each field,
 with 13 and 14 in each order, cheaper netted, joined and netted under the premise and without
-it, must come up in proportion to N.
+it, with as many comparisons as there can be, with none, with others in another order of the
+rows, must come up in proportion to N.
 
   --seed S    the seed, 1 if not given
   --count N   how many pairs, 20000 if not given

@@ -1,5 +1,6 @@
 //! A reading of netting, right or wrong on purpose.
 
+use super::count_readings::Count;
 use books::{Book, Row};
 
 /// What is wrong with netting.
@@ -57,6 +58,8 @@ pub enum Wrong {
     PastTheEnd,
     /// Books of more than so many rows stay as they are.
     LongKept(usize),
+    /// The book is right, and its comparisons are not.
+    Counted(Count),
 }
 
 /// A row with its class and its number in the file.
@@ -228,8 +231,16 @@ impl Wrong {
         refusal.map_or(Ok(netted), Err)
     }
 
+    /// How comparisons are counted.
+    pub fn count(self) -> Count {
+        match self {
+            Wrong::Counted(count) => count,
+            _ => Count::Right,
+        }
+    }
+
     /// The row that a refusal names, as it is told.
-    pub fn told(self, bytes: &[u8], [number, row]: Refused) -> [u64; 4] {
+    pub fn told(self, bytes: &[u8], [number, row]: Refused) -> [u64; 5] {
         let legs = legs(bytes);
         let class = legs.get(row as usize).map_or(0, |leg| leg.class);
         let before = legs.iter().filter(|leg| leg.class < class).count() as u64;
@@ -237,7 +248,7 @@ impl Wrong {
             (Wrong::RowOfClass, 13 | 14) => row - before,
             _ => row,
         };
-        [number, row, 0, 0]
+        [number, row, 0, 0, 0]
     }
 }
 

@@ -76,7 +76,7 @@ impl Calls for StandIn<'_> {
             (true, false) => (),
         }
     }
-    fn net(&self, book: &[u8], out: &mut [u8], result: &mut [u64; 4]) {
+    fn net(&self, book: &[u8], out: &mut [u8], result: &mut [u64; 5]) {
         match (self.without.contains(&Call::Net), self.zeros) {
             (false, _) => Second.net(book, out, result),
             (true, true) => result.fill(0),
@@ -174,6 +174,7 @@ fn a_run_that_has_seen_too_little_fails() {
     assert!(message.contains("\nbooks netted with a sum that comes back: 0 where"));
     assert!(message.contains("\nnets refused 13: 0 where at least 250 are wanted\n"));
     assert!(message.contains("\nnetted joins under the zone premise: 0 where"));
+    assert!(message.contains("\ncomparisons as many as there can be: 0 where"));
     assert!(message.contains("\ntables refused 18: 0 where"));
     assert!(message.contains("\ntables refused for 1-3 above 100 alone: 0 where"));
     assert!(!message.contains("books accepted: "), "{message}");
@@ -331,7 +332,7 @@ fn a_run_without_issues_fails() {
     let lacking = lacking(without_issues);
     let none = lacking.iter().filter(|line| line.contains(": 0 where"));
     assert_eq!(none.count(), lacking.len(), "{lacking:?}");
-    let about = |line: &&String| line.contains("net");
-    assert_eq!(lacking.iter().filter(about).count(), 13, "{lacking:?}");
-    assert_eq!(lacking.len(), 13, "{lacking:?}");
+    let about = |line: &&String| line.contains("net") || line.starts_with("comparisons ");
+    assert_eq!(lacking.iter().filter(about).count(), 15, "{lacking:?}");
+    assert_eq!(lacking.len(), 15, "{lacking:?}");
 }

@@ -1,6 +1,7 @@
 //! What a run has seen, so that it can be told from one that compared nothing.
 
 use super::case::Case;
+use super::comparisons::Comparisons;
 use super::floating::Floating;
 use super::net_joins::NetJoins;
 use super::nets::Nets;
@@ -33,6 +34,7 @@ pub struct Tally {
     pub tables: Tables,
     pub small_banks: SmallBanks,
     pub nets: Nets,
+    pub comparisons: Comparisons,
     /// Of books and joins under an accepted table.
     pub net_joins: NetJoins,
 }
@@ -50,6 +52,7 @@ impl Tally {
         self.floating.count(&case.a, &refusal);
         self.small_banks.count(&case.a, &refusal);
         self.nets.count(case);
+        self.comparisons.count(case);
         self.ladder_refused += u64::from(case.group > 31);
         self.tables.count(case);
         let charged = second::read_table(&case.table).is_ok();
@@ -104,6 +107,7 @@ impl Tally {
         counts.extend(self.tables.named());
         counts.extend(self.small_banks.named());
         counts.extend(self.nets.named());
+        counts.extend(self.comparisons.named());
         counts.extend(self.net_joins.named());
         counts.extend(numbered("books refused", &self.refused));
         counts.extend(numbered("joins refused", &self.joins));
@@ -138,6 +142,7 @@ impl fmt::Display for Tally {
         writeln!(out, "{}", self.tables)?;
         writeln!(out, "{}", self.small_banks)?;
         writeln!(out, "{}", self.nets)?;
+        writeln!(out, "{}", self.comparisons)?;
         writeln!(out, "{}", self.net_joins)?;
         writeln!(
             out,

@@ -8,7 +8,7 @@ use super::{check, laws};
 use crate::calls::Second;
 
 /// A run of 3,000 cases with a reading.
-fn run(library: &Misread) -> Run<'_> {
+pub fn run(library: &Misread) -> Run<'_> {
     Run {
         library,
         other: &Second,
@@ -20,7 +20,7 @@ fn run(library: &Misread) -> Run<'_> {
 }
 
 /// How a result that differs is told, and a byte of the output.
-const NET: &str = "net by a wrong reading and by the second calculation: entry ";
+pub const NET: &str = "net by a wrong reading and by the second calculation: entry ";
 const BYTE: &str = "net: output byte ";
 
 /// A second row that is unlike the first is not told, in an output without room; or is told where
@@ -30,7 +30,7 @@ const SEEN: &str = "0 is 13 and 12, entry 1 is 1 and 0\n";
 
 /// Holds what is told of a wrong reading, which a run must find, to what differs and to the most
 /// rows that are wanted to show it.
-fn shown(wrong: Wrong, how: &str, words: &str, rows: usize) {
+pub fn shown(wrong: Wrong, how: &str, words: &str, rows: usize) {
     let name = "a wrong reading";
     let Err(failure) = run(&Misread { name, wrong }).outcome() else {
         panic!("{wrong:?} is not found");

@@ -1,6 +1,8 @@
 //! The netted rows once more, to hold the library's to.
 
+use super::count::counted;
 use crate::report::fields;
+use crate::text::whole;
 use books::names::CLASS_NAMES;
 use books::{Book, Row};
 
@@ -50,6 +52,15 @@ pub fn doubt(book: &[u8], library: &[u8]) -> Option<String> {
     (0..own.classes.len()).find_map(|class| match netted(&whole.classes[class]) {
         Some(expected) => of_class(class, &own.classes[class], &expected),
         None => Some("the library netted an issue that is too large".into()),
+    })
+}
+
+/// Why so many comparisons cannot be those of netting a book.
+pub fn doubt_count(book: &[u8], library: u64) -> Option<String> {
+    let expected = counted(&Book::decode(book).unwrap_or_default());
+    let [told, by_the_book] = [library, expected].map(whole);
+    (library != expected).then(|| {
+        format!("the library made {told} comparisons, by the book there are {by_the_book}")
     })
 }
 
@@ -107,6 +118,20 @@ mod tests {
         assert!(wrong(0, row(5, 0, 60)).contains("issue 5, long 0, short 60, by "));
         assert!(wrong(0, row(0, 7, 0)).starts_with("netted, equity row 0 is "));
         assert!(wrong(2, row(1, 0, 7)).starts_with("netted, equity row 2 is "));
+    }
+
+    /// Catches a wrong count that is not told, in either way.
+    #[test]
+    fn a_wrong_count_is_told() {
+        let whole = book(&[row(5, 1, 0), row(6, 1, 0), row(5, 1, 0)]);
+        assert_eq!(doubt_count(&whole, 2), None);
+        for wrong in [0, 1, 3, 1_002] {
+            let told = doubt_count(&whole, wrong).unwrap();
+            assert!(told.ends_with(" comparisons, by the book there are 2"));
+        }
+        let told = "the library made 1,002 comparisons, by the book there are 2";
+        assert_eq!(doubt_count(&whole, 1_002).unwrap(), told);
+        assert_eq!(doubt_count(&[0; 8], 0), None);
     }
 
     /// Catches rows too many or too few, and what is no book.

@@ -1,16 +1,20 @@
 //! `net`: the rows of one issue into one.
 
+mod count;
 mod doubt;
 
-use crate::cli::{no, Args, Command, Outcome};
-use crate::files::{apart, input, read_book, write};
+use crate::cli::{no, print, usage, Args, Command, Failure, Outcome};
+use crate::files::{apart, input, is_output, read_book, write};
 use crate::report::explain;
-use doubt::doubt;
+use crate::text::whole;
+pub use count::bound;
+use doubt::{doubt, doubt_count};
+use std::path::Path;
 
 pub const COMMAND: Command = Command {
     name: "net",
     brief: "a book with the rows of one issue made one",
-    help: "market-risk net BOOK OUT
+    help: "market-risk net BOOK OUT [--comparisons]
 
 Writes the netted book. Within a class the rows of one issue number become one row, in the
 place of the first, with their net on its side; an issue that nets to zero is left out. Rows
@@ -24,24 +28,57 @@ Nothing is written when the book is refused, or when an issue cannot be netted:
   14   an issue nets to over 1,000,000,000; the first row of the earliest such issue is told
 
 The netted book is the proved library's. Its rows are netted here once more, and the command
-fails, and writes nothing, if they are others.
+fails, and writes nothing, if they are others, or if the library made another number of
+comparisons.
+
+  --comparisons   print how many comparisons the netting took, and the most that a book of so
+                  many rows can take, n(n - 1)/2 of n rows. In each class each row that has an
+                  issue number is compared with the first rows of the issues before it, in
+                  order, up to the one of its own issue. Not with an OUT that is standard
+                  output, where the netted book goes
 ",
     options: &[],
-    flags: &[],
+    flags: &["--comparisons"],
     run,
 };
 
+/// The netted book and its comparisons, both held to the rows; or why there is none.
+fn netted(bytes: &[u8]) -> Result<(Vec<u8>, u64), String> {
+    let mut out = vec![0; bytes.len()];
+    let netted = market_risk::net(bytes, &mut out).map_err(|refusal| explain(bytes, &refusal))?;
+    out.truncate(netted.length);
+    let doubt = doubt(bytes, &out).or_else(|| doubt_count(bytes, netted.comparisons));
+    doubt.map_or(Ok((out, netted.comparisons)), Err)
+}
+
+/// The line of the comparisons.
+fn line(bytes: &[u8], comparisons: u64) -> String {
+    let rows = bytes.len().saturating_sub(8) / 16;
+    let [made, most] = [comparisons, bound(rows)].map(whole);
+    format!("comparisons {made} of at most {most}\n")
+}
+
+/// The line must not run into a book on standard output.
+fn apart_from_line(to: &Path, wanted: bool) -> Result<(), Failure> {
+    match wanted && is_output(to) {
+        true => Err(usage(
+            "net: --comparisons prints on standard output, where the netted book goes",
+        )),
+        false => Ok(()),
+    }
+}
+
 fn run(args: &Args) -> Outcome {
     let [from, to] = args.files()?;
+    let wanted = args.flag("--comparisons");
+    apart_from_line(to, wanted)?;
     apart(to, &[from])?;
     let bytes = read_book(from)?;
-    let netted = market_risk::netted(&bytes).map_err(|refusal| explain(&bytes, &refusal));
-    let held = netted.and_then(|netted| match doubt(&bytes, &netted) {
-        None => Ok(netted),
-        Some(why) => Err(why),
-    });
-    write(
-        to,
-        &held.map_err(|why| no(format!("{}: {why}", input(from))))?,
-    )
+    let (netted, comparisons) =
+        netted(&bytes).map_err(|why| no(format!("{}: {why}", input(from))))?;
+    write(to, &netted)?;
+    match wanted {
+        true => print(&line(&bytes, comparisons)),
+        false => Ok(()),
+    }
 }

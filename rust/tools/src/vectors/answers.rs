@@ -29,8 +29,7 @@ fn ladder(by: &dyn Calls, book: &[u8], table: &[u8], group: u16) -> (&'static st
 /// The name of a call and its figures, by a calculation and its own table of document 01.
 fn answer(by: &dyn Calls, case: &Case) -> (&'static str, Vec<u64>) {
     let book = &case.book;
-    let (mut check, mut commodity, mut result) = ([0; 3], [0; 7], [0; 4]);
-    let mut small_bank = [0; 6];
+    let (mut check, mut commodity, mut small_bank) = ([0; 3], [0; 7], [0; 6]);
     let mut table_01 = [0; 36];
     by.table(&mut table_01);
     match &case.call {
@@ -48,11 +47,13 @@ fn answer(by: &dyn Calls, case: &Case) -> (&'static str, Vec<u64>) {
         }
         Call::Join { other, room } => {
             let mut out = vec![FILL; *room as usize];
+            let mut result = [0; 4];
             by.join(book, other, &mut out, &mut result);
             ("join", [&result[..], &[checksum(&out)]].concat())
         }
         Call::Net { room } => {
             let mut out = vec![FILL; *room as usize];
+            let mut result = [0; 5];
             by.net(book, &mut out, &mut result);
             ("net", [&result[..], &[checksum(&out)]].concat())
         }
@@ -115,6 +116,8 @@ mod tests {
     fn lines_have_every_figure() {
         let equity = [row(3, 1, 0, 0, 100), row(3, 3, 0, 0, -40)];
         let book = super::super::build::only(1, &equity);
+        let issues = [7, 5, 9].map(|issue| row(3, 1, 0, 0, 5).with_issue(issue));
+        let three = super::super::build::only(1, &issues);
         let cases = [
             call(Call::Check, &[]),
             call(Call::Charge, &book),
@@ -129,7 +132,10 @@ mod tests {
             small_bank(&super::super::build::only(3, &[row(3, 0, 90, 0, -2)])),
             net(&[0; 8], 8),
             net(&[0; 8], 7),
+            net(&three, 56),
         ];
+        // Each of the three rows stays, and the third is compared with both others.
+        let all = checksum(&three);
         let left = checksum(&[0xa5; 7]);
         let (sum, lists) = (checksum(&[0; 8]), " 0".repeat(64));
         let expected = format!(
@@ -145,8 +151,9 @@ mod tests {
              10 40 30 30 40 100\n\
              small-bank 20 0 0 0 0 0\n\
              small-bank 0 0 0 0 360000 360000\n\
-             net 0 0 0 8 {sum}\n\
-             net 12 0 0 0 {left}\n"
+             net 0 0 0 8 0 {sum}\n\
+             net 12 0 0 0 0 {left}\n\
+             net 0 0 0 56 3 {all}\n"
         );
         assert_eq!(lines(&cases), expected);
     }

@@ -10,6 +10,7 @@ mod full;
 mod joins;
 mod ladders;
 mod loaded;
+mod net_counts;
 mod net_faults;
 mod nets;
 #[cfg(test)]
@@ -62,6 +63,7 @@ fn cases(seed: u64) -> Vec<Case> {
         small_faults::cases(),
         nets::cases(seed),
         net_faults::cases(),
+        net_counts::cases(),
     ]
     .concat()
 }
@@ -118,7 +120,7 @@ mod tests {
         }));
         assert!(books.len() >= 300, "{} books", books.len());
         let [(_, stdin), (_, stdout)] = files(1);
-        assert!(stdin.len() < 410_000, "{} bytes", stdin.len());
+        assert!(stdin.len() < 430_000, "{} bytes", stdin.len());
         assert!(stdout.len() < 300_000, "{} bytes", stdout.len());
     }
 

@@ -186,7 +186,7 @@ mod tests {
     use super::super::answers::lines;
     use super::*;
 
-    /// The numbers, rows and lengths of some books.
+    /// The numbers, rows and lengths of some books; their comparisons come next.
     fn answers(books: &[Vec<u8>]) -> Vec<[u64; 3]> {
         let cases: Vec<Case> = books.iter().map(|book| net(book, 65_536)).collect();
         let lines = lines(&cases);

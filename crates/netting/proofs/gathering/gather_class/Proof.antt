@@ -16,16 +16,16 @@ use Rattle.book.specs.Inner.Reading.{rowOf, partRows}
 use Rattle.issues.specs.Agreeing.{sameTerms}
 use Rattle.netting.specs.Inner.Gathering.{gatheredIn, CanGather}
 use Rattle.netting.proofs.FirstRows.{noRow, row-is}
-use Rattle.netting.proofs.Adding.{gathered-within, Adds, adds-none, few-kept, first-row-low, adds-next, adds-leaves, adds-all}
+use Rattle.netting.proofs.Adding.{gathered-within, Adds, adds-none, few-kept, few-more, first-row-low, adds-next, adds-leaves, adds-all}
 use Rattle.netting.proofs.gathering.gather_class.Statement.{statement}
 use Rattle.netting.proofs.gathering.gather_class.Tie as tie
 
 abbrev Inv-loop : tie.InvT-loop
-Inv-loop part first longs₀ shorts₀ issues₀ places₀ kept₀ row₀ longs shorts issues places kept row =
-    Adds first (partRows part) longs₀ shorts₀ row kept issues places longs shorts
+Inv-loop part first longs₀ shorts₀ issues₀ places₀ kept₀ compared₀ row₀ longs shorts issues places kept compared row =
+    Adds first (partRows part) longs₀ shorts₀ row kept compared issues places longs shorts
 
 abbrev μ-loop : tie.MeasureT-loop
-μ-loop part first longs₀ shorts₀ issues₀ places₀ kept₀ row₀ longs shorts issues places kept row = length (partRows part) - row
+μ-loop part first longs₀ shorts₀ issues₀ places₀ kept₀ compared₀ row₀ longs shorts issues places kept compared row = length (partRows part) - row
 
 loop-holds : tie.Need-loop-holds Inv-loop μ-loop
 loop-holds c = adds-none _ _ _ _ (c .before .pre) (length-replicate {A = ℕ} 4000 0) (length-replicate {A = ℕ} 4000 0)
@@ -65,6 +65,7 @@ module _ (c : tie.After-first-row Inv-loop μ-loop) where
 
   now : Adds first rows (c .before .before .before .before .before .before .before .before .args .longs .now)
       (c .before .before .before .before .before .before .before .before .args .shorts .now) row (c .before .before .before .before .before .before .loop .kept)
+      (c .before .before .before .before .before .before .loop .compared)
       (c .before .before .before .before .before .before .loop .issues) (c .before .before .before .before .before .before .loop .places)
       (c .before .before .before .before .before .before .loop .longs) (c .before .before .before .before .before .before .loop .shorts)
   now = c .before .before .before .before .before .before .loop .inv
@@ -121,20 +122,26 @@ add-requires-2 c κs =
     let most = small at (λ r. r .short) _ (can at .sized-shorts) (can at .clear-shorts) (every-implied (λ r p. p .1) (can at .within)) in
     (room at, rw (now at .shorts-are) most)
 
+add-compared : tie.Need-add-compared Inv-loop μ-loop
+add-compared c =
+    let at = c .before .before .before .before .before .before .before .before in
+    let more = few-more _ _ _ _ (can at) (now at) (there at) (leg at) (is-leg at) (at .first-row .ensures) in
+    omega (arith, now at .few-compared, more, few-kept _ _ _ _ (can at) (now at) (there at), there at, can at .room)
+
 add-row : tie.Need-add-row Inv-loop μ-loop
 add-row c =
-    let at = c .before .before .before .before .before .before .before in
+    let at = c .before .before .before .before .before .before .before .before in
     omega (arith, there at, can at .room)
 
 loop-less : tie.Need-loop-less Inv-loop μ-loop
-loop-less c = omega (arith, there (c .before .before .before .before .before .before .before))
+loop-less c = omega (arith, there (c .before .before .before .before .before .before .before .before))
 
 loop-again : tie.Need-loop-again Inv-loop μ-loop
 loop-again c =
-    let at = c .before .before .before .before .before .before .before in
-    let test = tested at (c .before .before .before .before .before .same-terms .ensures) (c .before .before .before .before .before .before .row-at2 .ensures) in
+    let at = c .before .before .before .before .before .before .before .before in
+    let test = tested at (c .before .before .before .before .before .before .same-terms .ensures) (c .before .before .before .before .before .before .before .row-at2 .ensures) in
     adds-next _ _ _ _ (can at) (now at) (there at) (leg at) (is-leg at) (at .first-row .ensures)
-    (sym test ∙ not-false _ (c .before .before .before .before .if2 .left)) (c .before .before .add .ensures) (c .add2 .ensures)
+    (sym test ∙ not-false _ (c .before .before .before .before .before .if2 .left)) (c .before .before .before .add .ensures) (c .before .add2 .ensures)
 
 returns-2 : tie.Need-returns-2 Inv-loop μ-loop
 returns-2 c =
@@ -158,6 +165,7 @@ gather-class-spec =
     add-requires
     add-add-2
     add-requires-2
+    add-compared
     add-row
     loop-less
     loop-again

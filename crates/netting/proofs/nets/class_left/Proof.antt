@@ -1,6 +1,5 @@
 -- `netting::nets::class_left` meets its contract: the rows of a class are rows of the book.
 use mathlib.Core.Path.{ap₂, _∙_}
-use Prim.Native.Nat.{ℕ}
 use native.Mathlib.Omega.{arith}
 use borrow.Author.Needs.{needs}
 use Rattle.book.proofs.Placing.{before-within}
