@@ -66,7 +66,7 @@ comparisons-from kept (row ∷ rows) =
 
 -- ---- the bound is reached by different issues
 -- an issue that is not kept is compared with all of them, and kept
-compared-all : (kept : List ℕ) (issue : ℕ) → has kept issue ≡ false → comparedWith kept issue ≡ length kept
+pub compared-all : (kept : List ℕ) (issue : ℕ) → has kept issue ≡ false → comparedWith kept issue ≡ length kept
 unfolding has comparedWith
 compared-all [] issue e = refl
 compared-all (first ∷ kept) issue e = go (eqb first issue) e (compared-all kept issue)

@@ -47,14 +47,6 @@ first-row-zero : (issue : ℕ) (issues : List ℕ) → firstRowOf (issue ∷ iss
 unfolding firstRowOf firstPlace
 first-row-zero issue issues = rw (eq-eqb issue issue refl) (cond-same (eqb issue 0) 0)
 
-module _ (issue : ℕ) (issues : List ℕ) (j : ℕ) where
-  abbrev x : ℕ
-  x = getD issues j 0
-
-  pub first-row-next : firstRowOf (issue ∷ issues) (suc j) ≡ cond (eqb x 0) (suc j) (cond (eqb issue x) 0 (suc (placeOf x issues)))
-  unfolding firstRowOf firstPlace
-  first-row-next = refl
-
 -- ---- rows whose issues were seen count for nothing
 module _ (amount : Row → ℕ) where
   abbrev part : Bool → ℕ → ℕ → ℕ → ℕ

@@ -10,6 +10,7 @@ use lib.ListN.{length, getD}
 use borrow.Author.Tests.{eqb-true, eq-eqb}
 use Rattle.issues.specs.Issues.{has}
 use Rattle.issues.specs.Comparing.{comparedWith}
+use Rattle.issues.proofs.Comparing.{compared-all}
 use Rattle.netting.specs.Inner.Places.{firstPlace, placeOf}
 
 module _ (issue : ℕ) where
@@ -94,12 +95,9 @@ module _ (issue : ℕ) where
       go true h later = omega arith
       go false h later = omega (arith, later (omega arith))
 
-  pub compared-all : (list : List ℕ) → placeOf issue list ≡ length list → comparedWith list issue ≡ length list
-  unfolding comparedWith firstPlace
-  compared-all [] e = refl
-  compared-all (other ∷ list) e = go (eqb other issue) e (compared-all list)
+  pub compared-past : (list : List ℕ) → placeOf issue list ≡ length list → comparedWith list issue ≡ length list
+  compared-past list e = go (has list issue) refl
     where
-      go : (own : Bool) → cond own 0 (suc (placeOf issue list)) ≡ suc (length list) → (placeOf issue list ≡ length list → comparedWith list issue ≡ length list)
-          → suc (cond own 0 (comparedWith list issue)) ≡ suc (length list)
-      go true e later = let never : ⊥ = omega arith in absurd never
-      go false e later = ap suc (later (omega arith))
+      go : (old : Bool) → has list issue ≡ old → comparedWith list issue ≡ length list
+      go true h = let never : ⊥ = omega (arith, has-within issue list h) in absurd never
+      go false h = compared-all list issue h

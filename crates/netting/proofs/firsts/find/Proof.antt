@@ -7,7 +7,7 @@ use borrow.Author.Tests.{eq-eqb, ne-eqb}
 use lib.Dec.{eqb}
 use lib.ListN.{length, take}
 use lib.Seq.{getD-take, length-take-le}
-use Rattle.netting.proofs.Standing.{compared-found, compared-all}
+use Rattle.netting.proofs.Standing.{compared-found, compared-past}
 use Rattle.netting.proofs.Places.{Searched, searched-none, searched-next, searched-here, searched-all}
 use Rattle.netting.proofs.firsts.find.Statement.{statement}
 use Rattle.netting.proofs.firsts.find.Tie as tie
@@ -51,7 +51,7 @@ returns-2 c =
     let all : length (take kept issues) ≡ kept = length-take-le kept issues (omega arith) in
     let here : at-loop .loop .at ≡ kept = omega arith in
     let past = searched-all _ (take kept issues) (at-loop .loop .at) (omega arith) (at-loop .loop .inv .2) ∙ here in
-    (sym past, omega (arith, compared-all (at-loop .before .args .issue) (take kept issues) (omega arith), at-loop .loop .inv .1))
+    (sym past, omega (arith, compared-past (at-loop .before .args .issue) (take kept issues) (omega arith), at-loop .loop .inv .1))
 
 pub find-spec : {M : Type 1} → statement M
 find-spec =
