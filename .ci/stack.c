@@ -17,6 +17,9 @@ static uint8_t joined[sizeof book];
 /* The same book with rows of 100 issues in each class, number 0 among them. */
 static uint8_t issues[sizeof book];
 
+/* The same book with government rows in interest, whose sides change from row to row: every two of them offset. */
+static uint8_t legs[sizeof book];
+
 /* A small bank's book: the last two classes of the one above. */
 static uint8_t small[8 + 2 * ROWS * 16];
 
@@ -39,6 +42,12 @@ static void fill(void)
     memcpy(issues, book, sizeof book);
     for (size_t row = 0; row < 4 * ROWS; row++)
         issues[8 + 16 * row + 6] = row % 100;
+    memcpy(legs, book, sizeof book);
+    for (size_t row = 0; row < ROWS; row++) {
+        legs[8 + 16 * row + 1] = 1;
+        legs[8 + 16 * row + 8] = row % 2 == 0 ? 5 : 0;
+        legs[8 + 16 * row + 12] = row % 2 == 0 ? 0 : 5;
+    }
 }
 
 static void check(void) { market_risk_check(book, sizeof book, out); }
@@ -54,6 +63,7 @@ static void join(void)
 }
 
 static void net(void) { market_risk_net(issues, sizeof issues, joined, sizeof joined, out); }
+static void offset(void) { market_risk_offset(legs, sizeof legs, joined, sizeof joined, out); }
 
 static size_t used(void (*call)(void))
 {
@@ -88,5 +98,6 @@ int main(void)
     refused = print_used("check", check) + print_used("table", give_table); /* the next two take this table */
     refused += print_used("charge", charge) + print_used("interest_ladder", interest_ladder);
     refused += print_used("commodity_ladder", commodity_ladder) + print_used("small_bank", small_bank);
-    return refused + print_used("join", join) + print_used("net", net);
+    refused += print_used("join", join) + print_used("net", net);
+    return refused + print_used("offset", offset);
 }

@@ -1,7 +1,8 @@
 /* Charges some small books through the C interface and prints their reports, with the
  * interest charges of each currency that has any: under document 01's table, and one of them
  * under a table of its own. Then the charges of a bank with only foreign exchange and
- * commodities, and those of one bond, long and short, before it is netted and after.
+ * commodities, those of one bond, long and short, before it is netted and after, and those of
+ * three swap legs, before they offset each other and after, in two orders.
  *
  *     cc -Wall -Wextra -Werror -Iinclude examples/charge.c target/staticlib/libmarket_risk.a -o charge
  */
@@ -69,6 +70,16 @@ static const uint8_t bonds[8 + 2 * 16] = {
     2, 0, 0, 0, 0, 0, 0, 0,
     7, 2, 0x38, 0x04, 0x20, 0x03, 5, 0, 100, 0, 0, 0, 0,  0, 0, 0,
     7, 2, 0x38, 0x04, 0x20, 0x03, 5, 0, 0,   0, 0, 0, 40, 0, 0, 0,
+};
+
+/* Currency 7, swap legs of coupon 800: long 100 at 360 days (0x0168), short 100 at 367 (0x016f), long 100 at 370 (0x0172). As they are,
+ * 7,000 are long in zone 1, and of 12,500 long and 12,500 short in zone 2 10% count: 700,000 + 125,000 mils. The first leg offsets the
+ * second, and 12,500 long cost 1,250,000. With the third leg first it is the third that goes, and 7,000 long cost 700,000. */
+static const uint8_t legs[8 + 3 * 16] = {
+    3, 0, 0, 0, 0, 0, 0, 0,
+    7, 1, 0x68, 0x01, 0x20, 0x03, 0, 0, 100, 0, 0, 0, 0,   0, 0, 0,
+    7, 1, 0x6f, 0x01, 0x20, 0x03, 0, 0, 0,   0, 0, 0, 100, 0, 0, 0,
+    7, 1, 0x72, 0x01, 0x20, 0x03, 0, 0, 100, 0, 0, 0, 0,   0, 0, 0,
 };
 
 /* A supervisor's own table, made up: 100 basis points in each of the fifteen bands; per cents
@@ -170,9 +181,22 @@ static void print_netted(const char *name, const uint8_t book[sizeof bonds])
     printf("comparisons %" PRIu64 "\n", result[4]);
 }
 
+/* Charges the book without its offsetting legs, which is never longer than the book. */
+static void print_offset(const char *name, const uint8_t book[sizeof legs])
+{
+    uint8_t left[sizeof legs];
+    uint64_t result[4];
+
+    market_risk_offset(book, sizeof legs, left, sizeof left, result);
+    if (result[0] != 0)
+        printf("%s\nrefused %" PRIu64 " row %" PRIu64 "\n", name, result[0], result[1]);
+    else
+        print_report(name, left, result[3]);
+}
+
 int main(void)
 {
-    uint8_t spoiled[sizeof classes], ended[sizeof floating], unlike[sizeof bonds], table[36];
+    uint8_t spoiled[sizeof classes], ended[sizeof floating], unlike[sizeof bonds], turned[sizeof legs], table[36];
 
     market_risk_table(table);
     print_table("document 01's table", table);
@@ -196,5 +220,11 @@ int main(void)
     print_report("book of one bond, long and short", bonds, sizeof bonds);
     print_netted("the same, netted", bonds);
     print_netted("book of two bonds of one number, netted", unlike);
+    memcpy(turned, legs, sizeof legs);
+    memcpy(turned + 8, legs + 8 + 2 * 16, 16); /* the first and the last leg exchanged */
+    memcpy(turned + 8 + 2 * 16, legs + 8, 16);
+    print_report("book of three swap legs", legs, sizeof legs);
+    print_offset("the same, offset", legs);
+    print_offset("the same with its last leg first, offset", turned);
     return 0;
 }

@@ -28,9 +28,9 @@
  *
  * Pointers must hold as many bytes or entries as is said. A null pointer with length 0 is
  * a file or table of no bytes, or an output without room; a result is never null. A result
- * must not overlap a book or a table, nor the output of a join or of netting a book that the
- * call is given. No call keeps a pointer, allocates, or has state of its own, so calls may run
- * at once.
+ * must not overlap a book or a table, nor the output of a join, of netting or of offsetting a
+ * book that the call is given. No call keeps a pointer, allocates, or has state of its own, so
+ * calls may run at once.
  *
  * The stack that a call takes, in bytes, measured on x86-64 and rounded up. No call
  * recurses, so no book and no table makes it more.
@@ -43,9 +43,10 @@
  *     market_risk_small_bank       15000
  *     market_risk_join               500
  *     market_risk_net              81000
+ *     market_risk_offset           65000
  *
- * The charge, the small bank and netting call memset. Where the loader binds it at its first call,
- * that takes some 3000 bytes more, once.
+ * The charge, the small bank, netting and offsetting call memset. Where the loader binds it at its
+ * first call, that takes some 3000 bytes more, once.
  */
 #ifndef MARKET_RISK_H
 #define MARKET_RISK_H
@@ -122,6 +123,22 @@ void market_risk_join(const uint8_t *a, size_t a_len, const uint8_t *b, size_t b
  * result: number, row, book (0); the length of the netted book; comparisons. */
 void market_risk_net(const uint8_t *book, size_t len, uint8_t *out, size_t out_len,
                      uint64_t result[5]);
+
+/* Writes the book without its offsetting swap legs to the front of out, which has out_len bytes.
+ * The interest rows of kind 1 are taken in file order, each with the first later one that is
+ * still there and fits it, and both are left out; all other rows stay as they are, in order. Two
+ * rows fit when both are of kind 1 and of one group, their amounts are equal on opposite sides,
+ * their coupons are at most 15 apart, and their days, with d the smaller of the two, are
+ *     equal                 d under 30
+ *     at most 7 apart       d from 30 to 360
+ *     at most 30 apart      d over 360
+ * Issue numbers are not looked at. What is left out depends on the order of the rows, and it may
+ * raise a charge as well as lower it. Bytes past the written book keep their values, and a refused
+ * call writes none. It is never longer than the book: len bytes are always enough. When every row
+ * has passed, an output shorter than the written book is refused with 12.
+ * result: number, row, book (0); the length of the written book. */
+void market_risk_offset(const uint8_t *book, size_t len, uint8_t *out, size_t out_len,
+                        uint64_t result[4]);
 
 #ifdef __cplusplus
 }

@@ -1,6 +1,6 @@
--- A book is refused with 0 exactly when it is one of the accepted books.
+-- A book is refused with 0 exactly when it is one of the accepted books; and so it is read.
 -- Assumes nothing.
-use mathlib.Core.Path.{_≡_, refl}
+use mathlib.Core.Path.{_≡_, refl, sym, ap, _∙_}
 use mathlib.Core.Bool.{Bool, true, false, cond}
 use mathlib.Core.List.{List, [], _∷_, map}
 use Prim.Native.Nat.{ℕ, suc, _≤_}
@@ -13,9 +13,9 @@ use Rattle.sums.proofs.Every.{every-flat, flat-every, every-mapped, mapped-ever
 use Rattle.book.specs.Counts.{classes}
 use Rattle.book.specs.Rows.{rowsOf, decode}
 use Rattle.book.specs.Legs.{Leg, legOf, legsOf}
-use Rattle.book.specs.Refusals.{rowRefusal, contentsRefusal, refused, firstRefusal, refusalOf}
+use Rattle.book.specs.Refusals.{Refusal, rowRefusal, contentsRefusal, refused, firstRefusal, refusalOf}
 use Rattle.book.specs.Accepted.{Clean, Accepted}
-use Rattle.book.specs.Inner.Reading.{Sized}
+use Rattle.book.specs.Inner.Reading.{Checked, checkedWith, checkedOf, Sized, ReadOf}
 use Rattle.book.proofs.Placing.{of-four}
 use Rattle.book.proofs.Passing.{passes-clean, clean-passes}
 
@@ -80,6 +80,15 @@ unfolding refusalOf
 refused-with-none s a =
     let sized = sized-contents s (record { contents = a .contents; few = a .few; sized = a .sized }) in
     simp (eq-eqb _ _ sized) (refused-none 0 (a .clean))
+
+-- ---- what was read of a book
+module _ {s : List ℕ} {read : Checked} (is : ReadOf s read) where
+  pub read-refusal : read .refusal ≡ refusalOf s
+  unfolding checkedOf checkedWith
+  read-refusal = ap (λ (checked : Checked). checked .refusal) (is .is)
+
+  pub read-accepted : read .refusal .number ≡ 0 → Accepted s
+  read-accepted e = accepted s (sym (ap (λ (refusal : Refusal). refusal .number) read-refusal) ∙ e)
 
 -- ---- class by class
 CleanRows : List ℕ → ℕ → Type 0

@@ -9,3 +9,4 @@ pub mod Passing
 pub mod Terms
 pub mod Acceptance
 pub mod Handing
+pub mod ClassRows

@@ -2,7 +2,8 @@
 -- Assumes nothing.
 use mathlib.Core.Path.{_≡_, refl, ap, _∙_}
 use mathlib.Core.List.{List, [], _++_, flatMap}
-use Prim.Native.Nat.{ℕ, zero, suc, _+_, _-_, _≤_}
+use Prim.Native.Nat.{ℕ, zero, suc, _+_, _-_, _≤_, _<_}
+use native.Mathlib.Nat.{add-zero, add-suc}
 use native.Mathlib.Numerals.{add-one}
 use native.Mathlib.Omega.{arith}
 use lib.ListN.{drop}
@@ -74,3 +75,14 @@ module _ (counts : Counts) where
   before-none zero h = refl
   before-none (suc zero) h = refl
   before-none (suc (suc class)) h = omega arith
+
+  -- the rows of a class end where those of a later one begin, or before
+  before-grows : (class n : ℕ) → rowsBefore counts class ≤ rowsBefore counts (class + n)
+  unfolding rowsBefore
+  before-grows class zero = rw (add-zero class) (omega arith)
+  before-grows class (suc n) = rw (add-suc class n) (omega (arith, before-grows class n))
+
+  pub rows-apart : (class later : ℕ) → class < later → rowsBefore counts class + countIn counts class ≤ rowsBefore counts later
+  rows-apart class later h =
+      let is : class + 1 + (later - (class + 1)) ≡ later = omega arith in
+      omega (arith, before-next class, before-grows (class + 1) (later - (class + 1)), ap (rowsBefore counts) is)

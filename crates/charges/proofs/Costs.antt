@@ -4,23 +4,21 @@ use mathlib.Core.Path.{_≡_, refl, sym, ap, _∙_, fun-ext}
 use mathlib.Core.List.{List, map}
 use Prim.Native.Nat.{ℕ, _+_, _*_, _≤_, _<_}
 use native.Mathlib.Omega.{arith}
-use lib.ListN.{length, getD, replicate, length-map, length-replicate}
+use lib.ListN.{length, getD, replicate, length-replicate}
 use Rattle.sums.specs.Sums.{sumOf, sumAt, span}
 use Rattle.sums.specs.Every.{Every}
-use Rattle.sums.proofs.Every.{every-implied, every-all, mapped-every}
+use Rattle.sums.proofs.Every.{every-implied, every-all}
 use Rattle.sums.proofs.Sums.{sumOf-map}
 use Rattle.sums.proofs.Spans.{sum-same, slots-all}
 use Rattle.sums.proofs.Tables.{length-tally}
 use Rattle.sums.proofs.Filling.{listed-same}
 use Rattle.book.specs.declared.Row.{Row}
-use Rattle.book.specs.Counts.{countsOf, countIn}
-use Rattle.book.specs.Rows.{rowsOf, decode}
+use Rattle.book.specs.Counts.{countsOf}
 use Rattle.book.specs.Legs.{legsOf}
-use Rattle.book.specs.Accepted.{Clean, Accepted}
+use Rattle.book.specs.Accepted.{Accepted}
 use Rattle.book.proofs.Acceptance.{class-clean, legs-every}
-use Rattle.book.proofs.Bodies.{class-count}
 use Rattle.book.proofs.Placing.{before-within}
-use Rattle.book.proofs.Walking.{class-rows}
+use Rattle.book.proofs.ClassRows.{class-size, rows-clean}
 use Rattle.ladder.specs.Position.{Bands, gross, total}
 use Rattle.ladder.specs.declared.Table.{Table}
 use Rattle.ladder.specs.Interest.{interestFigures}
@@ -51,18 +49,12 @@ module _ (s : List ℕ) (ok : Accepted s) where
   legs-placed = legs-every s (λ class low high. every-implied (λ bytes clean. record { low = low; high = high; group = clean .group }) (class-clean s ok class low high))
 
   module _ (class : ℕ) (low : 1 ≤ class) (high : class ≤ 4) where
-    pub rows-clean : Every (Clean class) (classRows s class)
-    rows-clean = rw (class-rows s class low high) (mapped-every decode (λ bytes clean. clean) (class-clean s ok class low high))
-
-    pub rows-many : length (classRows s class) ≡ countIn (countsOf s) class
-    rows-many = rw (class-rows s class low high) (length-map (rowsOf s class) decode ∙ class-count s (ok .sized) class)
-
     pub amounts-most : amounts (classRows s class) ≤ mostGross
-    amounts-most = omega (arith, amounts-within class rows-clean, rows-many, before-within (countsOf s) class, ok .few)
+    amounts-most = omega (arith, amounts-within class (rows-clean s ok class low high), class-size s ok class low high, before-within (countsOf s) class, ok .few)
 
     -- each row is of one of the 32 groups
     pub rows-grouped : Every (λ row. row .group < groupCount) (classRows s class)
-    rows-grouped = every-implied (λ row clean. omega (arith, clean .group)) rows-clean
+    rows-grouped = every-implied (λ row clean. omega (arith, clean .group)) (rows-clean s ok class low high)
 
 -- ---- tables that agree with the ladders of a class
 module _ (class n : ℕ) (rows : List Row) (table : ℕ → Bands) (agree : (g : ℕ) → g < groupCount → Agree n (table g) (ladderOf (reading class) g rows)) where

@@ -26,7 +26,8 @@ use Rattle.charges.proofs.Taking.{taken-refusal, taken-number, none-ref
 use Rattle.charges.proofs.Legs.{amounts-within, specific-within}
 use Rattle.charges.proofs.Rates.{interest-rate, equity-rate, exchange-rate, commodity-rate}
 use Rattle.charges.proofs.Currencies.{specifics-sum, generals-sum, currencies-many, currency-sum}
-use Rattle.charges.proofs.Costs.{rows-clean, rows-many, rows-grouped}
+use Rattle.book.proofs.ClassRows.{class-size, rows-clean}
+use Rattle.charges.proofs.Costs.{rows-grouped}
 
 -- ---- the report
 -- no total is over 280,000 mils for each unit of 4,000 rows of the largest amount
@@ -38,10 +39,10 @@ total-fits table ok s of =
     omega (
       arith,
       of .few,
-      rows-many s of 1 (omega arith) (omega arith),
-      rows-many s of 2 (omega arith) (omega arith),
-      rows-many s of 3 (omega arith) (omega arith),
-      rows-many s of 4 (omega arith) (omega arith),
+      class-size s of 1 (omega arith) (omega arith),
+      class-size s of 2 (omega arith) (omega arith),
+      class-size s of 3 (omega arith) (omega arith),
+      class-size s of 4 (omega arith) (omega arith),
       amounts-within 1 (rows-clean s of 1 (omega arith) (omega arith)),
       amounts-within 2 (rows-clean s of 2 (omega arith) (omega arith)),
       amounts-within 3 (rows-clean s of 3 (omega arith) (omega arith)),

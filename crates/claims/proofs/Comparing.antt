@@ -17,13 +17,14 @@ use Rattle.book.specs.Accepted.{Accepted}
 use Rattle.book.proofs.Placing.{of-four}
 use Rattle.book.proofs.Walking.{legs-length}
 use Rattle.book.proofs.Acceptance.{accepted}
+use Rattle.layout.specs.Room.{figureOf}
 use Rattle.issues.specs.Issues.{has}
 use Rattle.issues.specs.Comparing.{comparisonsFrom, comparisons}
 use Rattle.issues.proofs.Comparing.{comparisons-from, comparisons-reached}
+use Rattle.book.proofs.ClassRows.{class-size}
 use Rattle.netting.specs.Netted.{issuesRefusal, comparisonsOf, nettingRefusal, nettedOf}
-use Rattle.netting.proofs.ClassRows.{class-size}
 use Rattle.claims.specs.Netting.{ComparingHolds, ReachingHolds}
-use Rattle.claims.proofs.Nettable.{neither-refused}
+use Rattle.claims.proofs.Writing.{neither-refused}
 
 -- ---- numbers
 halves : (n compared : ℕ) → 2 * compared + n ≤ n * n → compared ≤ n * (n - 1) / 2
@@ -83,7 +84,7 @@ unfolding nettingRefusal issuesRefusal
 netted-accepted s room e = accepted s (neither-refused _ _ (neither-refused _ _ e .0) .0)
 
 pub comparing : ComparingHolds
-unfolding nettedOf
+unfolding nettedOf figureOf
 comparing s room = go (eqb (nettingRefusal s room .number) 0) refl
   where
     go : (passes : Bool) → eqb (nettingRefusal s room .number) 0 ≡ passes → cond passes (comparisonsOf s) 0 ≤ length (legsOf s) * (length (legsOf s) - 1) / 2
@@ -92,7 +93,7 @@ comparing s room = go (eqb (nettingRefusal s room .number) 0) refl
     go false e = omega arith
 
 pub reaching : ReachingHolds
-unfolding nettedOf
+unfolding nettedOf figureOf
 reaching s room e class low high all different =
     let rows = ofClass class (legsOf s) in
     let most = comparisons-reached [] (every-all (λ row. nothing-kept (row .issue)) rows) different in

@@ -4,6 +4,7 @@ pub mod Reader
 pub mod Thinner
 pub mod Charging
 pub mod Joining
+pub mod Writing
 pub mod Nettable
 pub mod Netting
 pub mod Mirroring
@@ -14,3 +15,5 @@ pub mod WorkedBooks
 pub mod WorkedJoin
 pub mod NettingBooks
 pub mod Comparing
+pub mod Offsetting
+pub mod OffsettingBooks

@@ -1,12 +1,12 @@
 -- The books to which no refusal before 12 applies are the accepted ones whose rows can be netted in each class.
 -- Assumes nothing.
 use Prim.Native.Nat.{ℕ, suc, _≤_}
-use mathlib.Core.Path.{_≡_, refl, subst}
+use mathlib.Core.Path.{_≡_, refl, ap, subst}
 use mathlib.Core.Bool.{Bool, true, false, cond}
 use mathlib.Core.List.{List, [], _∷_}
 use native.Mathlib.Omega.{arith}
 use lib.Dec.{eqb}
-use borrow.Author.Tests.{eqb-true, eqb-false}
+use borrow.Author.Tests.{eqb-true}
 use Rattle.sums.specs.Every.{Every, none, also}
 use Rattle.sums.proofs.Every.{every-mapped}
 use Rattle.book.specs.declared.Row.{Row}
@@ -21,21 +21,10 @@ use Rattle.book.proofs.Acceptance.{accepted, refused-with-none, legs-every}
 use Rattle.issues.specs.Agreeing.{differs, overLimit, CanBeNetted}
 use Rattle.issues.proofs.Agreeing.{agreeing, none-differs, none-over}
 use Rattle.charges.specs.Report.{classRows}
-use Rattle.netting.specs.Netted.{firstFound, foundInClass, orNext, issuesRefusal}
+use Rattle.layout.proofs.Room.{or-next}
+use Rattle.netting.specs.Netted.{firstFound, foundInClass, issuesRefusal}
 use Rattle.claims.specs.Netting.{Nettable, NettableHolds}
-
--- ---- refusals one after the other
-pub neither-refused : (refusal next : Refusal) → orNext refusal next .number ≡ 0 → (refusal .number ≡ 0) × (next .number ≡ 0)
-unfolding orNext
-neither-refused refusal next = go (eqb (refusal .number) 0) refl
-  where
-    go : (test : Bool) → eqb (refusal .number) 0 ≡ test → cond test next refusal .number ≡ 0 → (refusal .number ≡ 0) × (next .number ≡ 0)
-    go true t e = (eqb-true _ _ t, e)
-    go false t e = absurd (eqb-false _ _ t e)
-
-then-next : (refusal next : Refusal) → refusal ≡ refused 0 0 → orNext refusal next ≡ next
-unfolding orNext refused
-then-next refusal next e = rw e
+use Rattle.claims.proofs.Writing.{neither-refused, classes-each}
 
 -- ---- a leg that a test finds
 found-none : (number : ℕ) (test : Leg → Bool) (row : ℕ) (legs : List Leg) → firstFound (suc number) test row legs .number ≡ 0 → Every (λ leg. test leg ≡ false) legs
@@ -84,11 +73,6 @@ module _ (s : List ℕ) (test : List Row → Row → Bool) where
 each-class : {P : ℕ → Type 0} → Every P classes → (class : ℕ) → 1 ≤ class → class ≤ 4 → P class
 each-class {P} (also one (also two (also three (also four none)))) = of-four P one two three four
 
-pub classes-each : {P : ℕ → Type 0} → ((class : ℕ) → 1 ≤ class → class ≤ 4 → P class) → Every P classes
-classes-each each =
-    also (each 1 (omega arith) (omega arith))
-    (also (each 2 (omega arith) (omega arith)) (also (each 3 (omega arith) (omega arith)) (also (each 4 (omega arith) (omega arith)) none)))
-
 pub can-class : {s : List ℕ} → Nettable s → (class : ℕ) → 1 ≤ class → class ≤ 4 → CanBeNetted (classRows s class)
 can-class able = each-class (able .rows)
 
@@ -106,8 +90,9 @@ nettable s =
       taken = λ able.
           let can = can-class able in
           rw (
-            then-next (refusalOf s) _ (refused-with-none s (able .accepted)),
-            then-next (foundInClass 13 differs (legsOf s)) _ (class-passes s differs 13 (λ class low high. none-differs (classRows s class) (can class low high))),
+            or-next (refusalOf s) _ (ap (λ (r : Refusal). r .number) (refused-with-none s (able .accepted))),
+            or-next (foundInClass 13 differs (legsOf s)) _
+                (ap (λ (r : Refusal). r .number) (class-passes s differs 13 (λ class low high. none-differs (classRows s class) (can class low high)))),
           )
           (class-passes s overLimit 14 (λ class low high. none-over (classRows s class) (can class low high)));
     }

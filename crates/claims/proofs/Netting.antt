@@ -6,11 +6,10 @@ use mathlib.Core.List.{List, [], _∷_, _++_}
 use native.Mathlib.Nat.{le-refl, le-trans}
 use native.Mathlib.Omega.{arith}
 use lib.ListN.{length, take}
-use lib.Seq.{take-at}
 use borrow.Author.Tests.{eq-eqb}
 use Rattle.book.specs.declared.Row.{Row}
 use Rattle.book.specs.declared.Refusal.{Refusal}
-use Rattle.book.specs.Counts.{countsOf, countIn, rowCount}
+use Rattle.book.specs.Counts.{rowCount}
 use Rattle.book.specs.Refusals.{mostRows, refused}
 use Rattle.book.specs.Accepted.{Accepted}
 use Rattle.book.proofs.Acceptance.{refused-with-none}
@@ -20,15 +19,13 @@ use Rattle.issues.proofs.Counted.{bare}
 use Rattle.issues.proofs.Thinning.{Thins, netting-thins, joining-thins}
 use Rattle.issues.proofs.Kept.{netted-clean, netted-two-zones}
 use Rattle.issues.proofs.Again.{netted-can, netted-again}
-use Rattle.layout.specs.Written.{written}
-use Rattle.layout.specs.Files.{countsBy, bookBy}
-use Rattle.layout.proofs.Whole.{file-counts}
-use Rattle.layout.proofs.Rows.{book-legs, book-accepted, book-same}
+use Rattle.layout.specs.Room.{figureOf, outputOf}
+use Rattle.layout.proofs.Rows.{book-legs, book-same}
 use Rattle.table.specs.Loaded.{tableRefusal, tableOf}
 use Rattle.charges.specs.Bands.{lowCoupon, interestBand, bandIn}
 use Rattle.charges.specs.Charges.{reading, interestRisk, equityRisk}
 use Rattle.charges.specs.Report.{classRows, reportWith, chargedReport, reportOf}
-use Rattle.charges.proofs.Costs.{rows-clean, rows-many}
+use Rattle.book.proofs.ClassRows.{rows-clean}
 use Rattle.join.specs.Joined.{addedCounts, joinedCounts, joined}
 use Rattle.join.proofs.Settling.{Joins, joins, not-refused}
 use Rattle.join.proofs.JoinedBook.{joined-accepted}
@@ -37,35 +34,24 @@ use Rattle.market_risk.specs.Entries.{reportFigures}
 use Rattle.claims.specs.Zones.{TwoZonesEach}
 use Rattle.claims.specs.Demands.{Within, all-within, one-within, AtMost, no-figures, figure}
 use Rattle.claims.specs.Netting.{Nettable, NettingHolds, NettedJoiningHolds}
+use Rattle.claims.proofs.Writing.{neither-refused, classes-each, book-bytes, book-counts, fewer-rows, fewer-accepted}
 use Rattle.claims.proofs.Thinner.{specific-thins, interest-thins, equity-thins, exchange-thins, commodities-thin}
 use Rattle.claims.proofs.Joining.{accepted-report, book-written, joined-legs, joining}
-use Rattle.claims.proofs.Nettable.{neither-refused, can-class, classes-each, nettable}
+use Rattle.claims.proofs.Nettable.{can-class, nettable}
 
 -- ---- the netted book
 pub netted-rows : (s : List ℕ) (class : ℕ) → 1 ≤ class → class ≤ 4 → classRows (nettedBook s) class ≡ nettedRows (classRows s class)
 unfolding nettedBook
 netted-rows s = book-legs (nettedClass s)
 
-module _ {s : List ℕ} (able : Nettable s) where
-  fewer-rows : rowCount (countsBy (nettedClass s)) ≤ rowCount (countsOf s)
-  unfolding rowCount countsBy countIn
-  fewer-rows =
-      omega (
-        arith,
-        rows-many s (able .accepted) 1 (omega arith) (omega arith),
-        rows-many s (able .accepted) 2 (omega arith) (omega arith),
-        rows-many s (able .accepted) 3 (omega arith) (omega arith),
-        rows-many s (able .accepted) 4 (omega arith) (omega arith),
-        netted-fewer (classRows s 1),
-        netted-fewer (classRows s 2),
-        netted-fewer (classRows s 3),
-        netted-fewer (classRows s 4),
-      )
+netted-class-fewer : (s : List ℕ) (class : ℕ) → length (nettedClass s class) ≤ length (classRows s class)
+netted-class-fewer s class = netted-fewer (classRows s class)
 
+module _ {s : List ℕ} (able : Nettable s) where
   netted-accepted : Accepted (nettedBook s)
   unfolding nettedBook
   netted-accepted =
-      book-accepted (nettedClass s) (omega (arith, fewer-rows, able .accepted .few))
+      fewer-accepted (able .accepted) (nettedClass s) (netted-class-fewer s)
       (λ class low high. netted-clean class (classRows s class) (rows-clean s (able .accepted) class low high) (can-class able class low high))
 
   netted-nettable : Nettable (nettedBook s)
@@ -103,8 +89,8 @@ thinner-book table fine s t of-s of-t thins =
 
 -- the bytes that netting writes are the netted book
 netted-bytes : (s out : List ℕ) → nettingRefusal s (length out) .number ≡ 0 → take (nettedOf s (length out) .length) (nettingOutput s out) ≡ nettedBook s
-unfolding nettedOf nettingOutput written
-netted-bytes s out e = rw (eq-eqb _ _ e) (take-at (nettedBook s) _ (length (nettedBook s)) refl)
+unfolding nettedOf nettingOutput figureOf outputOf
+netted-bytes s out e = rw (eq-eqb _ _ e) (book-bytes (nettedBook s) out)
 
 pub netting : NettingHolds
 unfolding nettingRefusal
@@ -130,18 +116,16 @@ within-at-most : {w x a b : List ℕ} → Within w x → AtMost x a b → AtMost
 within-at-most all-within no-figures = no-figures
 within-at-most (one-within h rest) (figure k more) = figure (le-trans h k) (within-at-most rest more)
 
-netted-counts : (s : List ℕ) → countsOf (nettedBook s) ≡ countsBy (nettedClass s)
-unfolding nettedBook bookBy
-netted-counts s = file-counts (countsBy (nettedClass s)) _
-
 module _ (a b : List ℕ) (able : Nettable (joined a b)) (able-a : Nettable a) (able-b : Nettable b) (few : rowCount (joinedCounts a b) ≤ mostRows) where
   -- the netted books joined
   abbrev both : List ℕ
   both = joined (nettedBook a) (nettedBook b)
 
   few-joined : rowCount (joinedCounts (nettedBook a) (nettedBook b)) ≤ mostRows
-  unfolding joinedCounts addedCounts rowCount
-  few-joined = rw (netted-counts a, netted-counts b) (omega (arith, few, fewer-rows able-a, fewer-rows able-b))
+  unfolding joinedCounts addedCounts rowCount nettedBook
+  few-joined =
+      rw (book-counts (nettedClass a), book-counts (nettedClass b))
+      (omega (arith, few, fewer-rows (able-a .accepted) (nettedClass a) (netted-class-fewer a), fewer-rows (able-b .accepted) (nettedClass b) (netted-class-fewer b)))
 
   netted-joins : Joins (nettedBook a) (nettedBook b) (length both)
   netted-joins = record { first = netted-accepted able-a; second = netted-accepted able-b; few = few-joined; fits = le-refl _ }

@@ -12,7 +12,7 @@ use Rattle.book.specs.Accepted.{Accepted}
 use Rattle.charges.specs.Charges.{exchangeGeneral, simplifiedCommodity}
 use Rattle.charges.specs.Report.{classRows}
 use Rattle.charges.specs.SmallBank.{smallWith, smallBankOf}
-use Rattle.charges.proofs.Costs.{rows-many}
+use Rattle.book.proofs.ClassRows.{class-size}
 use Rattle.charges.proofs.Small.{Neither, small-none, small-accepted}
 use Rattle.join.specs.Joined.{joined}
 use Rattle.join.proofs.Settling.{joins}
@@ -42,9 +42,9 @@ module _ (j a b : List ℕ) (of-j : Accepted j) (of-a : Accepted a × Neither a)
   many class low high =
       omega (
         arith,
-        rows-many j of-j class low high,
-        rows-many a (of-a .0) class low high,
-        rows-many b (of-b .0) class low high,
+        class-size j of-j class low high,
+        class-size a (of-a .0) class low high,
+        class-size b (of-b .0) class low high,
         ap length (legs class low high) ∙ length-append (classRows a class) (classRows b class),
       )
 

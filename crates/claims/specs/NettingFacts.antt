@@ -1,6 +1,6 @@
 -- Netting one issue (P1), worked by hand: what is written, what is told no and where, and E4 joined and netted.
 use Prim.Native.Nat.{ℕ}
-use mathlib.Core.List.{List, [], _∷_, _++_}
+use mathlib.Core.List.{List, [], _∷_}
 use lib.ListN.{length, replicate}
 use Rattle.book.specs.Legs.{Leg}
 use Rattle.layout.specs.Files.{bookOf}
@@ -8,27 +8,16 @@ use Rattle.netting.specs.Netted.{issuesRefusal, nettedBook, nettedOf, nettingOu
 use Rattle.market_risk.specs.Entries.{refusalEntries}
 use Rattle.claims.specs.Demands.{joinedBook}
 use Rattle.claims.specs.Worked.{Worked, costs}
+use Rattle.claims.specs.WrittenBooks.{issued, bond, share, writes, answered}
 
--- ---- legs with an issue number
-abbrev pub issued : (class group kind days coupon issue long short : ℕ) → Leg
-issued class group kind days coupon issue long short =
-    record { class = class; row = record { group = group; kind = kind; days = days; coupon = coupon; issue = issue; long = long; short = short } }
-
-abbrev pub bond : (days issue long short : ℕ) → Leg
-bond days issue long short = issued 1 9 1 days 800 issue long short
-
-abbrev pub share : (issue long short : ℕ) → Leg
-share issue long short = issued 2 9 1 0 0 issue long short
-
--- some legs are not refused, and are written as others into an output that has just room for these
+-- ---- what netting does with some legs
+-- they are not refused, and are written as others
 abbrev pub nets : (legs left : List Leg) → Worked
-nets legs left = record { given = nettingOutput (bookOf legs) (replicate (length (bookOf left)) 5); expected = bookOf left }
+nets = writes nettingOutput
 
--- the answer to netting some legs into so many bytes: number, row, book, length
+-- its answer, with so many bytes of room
 abbrev pub answers : List Leg → ℕ → List ℕ → Worked
-answers legs room expected =
-    let answer = nettedOf (bookOf legs) room in
-    record { given = refusalEntries (answer .refusal) ++ answer .length ∷ []; expected = expected }
+answers legs room = answered (nettedOf (bookOf legs) room .refusal) (nettedOf (bookOf legs) room .length)
 
 -- refused, whatever the room
 abbrev pub tells : List Leg → (number row : ℕ) → Worked

@@ -15,8 +15,8 @@ use Rattle.book.specs.declared.Checked.{Checked}
 use Rattle.book.specs.Counts.{contentsSize, rowSize, countsOf, rowCount}
 use Rattle.book.specs.Refusals.{mostRows, refused, refusalOf}
 use Rattle.book.specs.Accepted.{Accepted}
-use Rattle.book.specs.Inner.Reading.{checkedWith, checkedOf, ReadOf}
-use Rattle.book.proofs.Acceptance.{accepted, refused-with-none}
+use Rattle.book.specs.Inner.Reading.{ReadOf}
+use Rattle.book.proofs.Acceptance.{read-refusal, accepted, refused-with-none}
 use Rattle.join.specs.Joined.{addedCounts, joinedCounts, joined, inBook, settled, joinRefusal}
 use Rattle.join.proofs.JoinedBook.{joined-length}
 
@@ -28,12 +28,10 @@ pub record Read (a b : List ℕ) (first second : Checked) (counts : Counts) : Ty
 
 module _ {a b : List ℕ} {first second : Checked} {counts : Counts} (r : Read a b first second counts) where
   of-first : first .refusal ≡ refusalOf a
-  unfolding checkedOf checkedWith
-  of-first = ap (λ (x : Checked). x .refusal) (r .of-a .is)
+  of-first = read-refusal (r .of-a)
 
   of-second : second .refusal ≡ refusalOf b
-  unfolding checkedOf checkedWith
-  of-second = ap (λ (x : Checked). x .refusal) (r .of-b .is)
+  of-second = read-refusal (r .of-b)
 
   -- of accepted books the counts are their own
   pub own-counts : Accepted a → Accepted b

@@ -4,3 +4,4 @@ pub mod Classwise
 pub mod Appended
 pub mod Whole
 pub mod Rows
+pub mod Room

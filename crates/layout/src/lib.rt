@@ -2,11 +2,18 @@
 pub mod contents;
 pub mod fields;
 
+use book::Refusal;
 ghost use mathlib.Core.Path.{_≡_};
 ghost use mathlib.Core.List.{_++_};
 ghost use Prim.Native.Nat.{_+_, _≤_};
 ghost use lib.ListN.{length, drop};
 ghost use Rattle.layout.specs.Written.{written};
+
+// Why a call that writes a book is refused, all zero where it is not; and the length of what is written, 0 where it is refused.
+pub struct Written {
+    pub refusal: Refusal,
+    pub length: usize,
+}
 
 // Copies all of src over the start of out; the rest of out keeps its bytes.
 fn copy_front(src: &[u8], out: &mut [u8])

@@ -6,6 +6,7 @@ use Rattle.charges.specs.declared.Report.{Report}
 use Rattle.charges.specs.declared.InterestLadder.{InterestLadder}
 use Rattle.charges.specs.declared.CommodityLadder.{CommodityLadder}
 use Rattle.charges.specs.declared.SmallBank.{SmallBank}
+use Rattle.layout.specs.declared.Written.{Written}
 use Rattle.join.specs.declared.Joined.{Joined}
 use Rattle.netting.specs.declared.Netted.{Netted}
 
@@ -54,3 +55,7 @@ joinedEntries joined = refusalEntries (joined .refusal) ++ (joined .length ∷ [
 -- the refusal, the length of the netted book (P1), the comparisons (P7)
 unfoldable pub nettedEntries : Netted → List ℕ
 nettedEntries netted = refusalEntries (netted .refusal) ++ (netted .length ∷ netted .comparisons ∷ [])
+
+-- the refusal, the length of what is written (P2)
+unfoldable pub writtenEntries : Written → List ℕ
+writtenEntries written = refusalEntries (written .refusal) ++ (written .length ∷ [])

@@ -9,7 +9,8 @@ ghost use Rattle.charges.specs.Report.{reportOf, interestLadderOf, commodityLad
 ghost use Rattle.charges.specs.SmallBank.{smallBankOf};
 ghost use Rattle.join.specs.Joined.{joinedOf, joinOutput};
 ghost use Rattle.netting.specs.Netted.{nettedOf, nettingOutput};
-ghost use Rattle.market_risk.specs.Entries.{refusalEntries, reportEntries, interestEntries, commodityEntries, smallEntries, joinedEntries, nettedEntries};
+ghost use Rattle.offsetting.specs.Offset.{offsetOf, offsettingOutput};
+ghost use Rattle.market_risk.specs.Entries.{refusalEntries, reportEntries, interestEntries, commodityEntries, smallEntries, joinedEntries, nettedEntries, writtenEntries};
 
 // The entries of a report: its refusal and figures, and two for each currency.
 const REPORT: usize = 75;
@@ -163,5 +164,20 @@ pub extern "C" fn market_risk_net(book: &[u8], out: &mut [u8], result: &mut [u64
         netted.refusal.book as u64,
         netted.length as u64,
         netted.comparisons as u64,
+    ];
+}
+
+// Writes a book without its fitting swap legs into out: bytes past it keep their values, of a refused call all do.
+#[no_mangle]
+pub extern "C" fn market_risk_offset(book: &[u8], out: &mut [u8], result: &mut [u64; 4])
+    ensures { λ r. ⌜ now (out .exit) ≡ offsettingOutput (now (book .entry)) (now (out .entry)) ⌝ }
+    ensures { λ r. ⌜ now (result .exit) ≡ writtenEntries (offsetOf (now (book .entry)) (len (now (out .entry)))) ⌝ }
+{
+    let left = offsetting::offset(book, out);
+    *result = [
+        left.refusal.number as u64,
+        left.refusal.row as u64,
+        left.refusal.book as u64,
+        left.length as u64,
     ];
 }

@@ -27,7 +27,8 @@ use Rattle.issues.specs.Agreeing.{sameTerms, differs}
 use Rattle.netting.specs.Inner.Places.{keptIssues, Keeps, FirstRowIs, FirstRowFound, firstRowOf}
 use Rattle.netting.specs.Inner.Gathering.{issueNumbers, gatheredIn, CanGather, Gathered}
 use Rattle.netting.proofs.Places.{Searched, searched-none, searched-next, searched-here, searched-all}
-use Rattle.netting.proofs.FirstRows.{noRow, issue-at, first-row-known, first-row-within, differs-at}
+use Rattle.book.proofs.ClassRows.{noRow}
+use Rattle.netting.proofs.FirstRows.{issue-at, first-row-known, first-row-within, differs-at}
 
 -- ---- amounts added one after the other
 span-length : (start n : ℕ) → length (span start n) ≡ n

@@ -1,28 +1,19 @@
 -- What the call answers, by its refusal: the first of four, and with it the length and the output.
 -- Assumes nothing.
-use mathlib.Core.Path.{_≡_, ap, _∙_}
+use mathlib.Core.Path.{_≡_, sym, ap, _∙_}
 use mathlib.Core.List.{List}
-use Prim.Native.Nat.{ℕ, _≤_, _<_}
-use native.Mathlib.Omega.{arith}
+use Prim.Native.Nat.{ℕ}
 use lib.ListN.{length}
-use borrow.Author.Tests.{eq-eqb, ne-eqb, lt-ltb, le-ltb}
 use Rattle.book.specs.declared.Refusal.{Refusal}
 use Rattle.book.specs.Legs.{legsOf}
 use Rattle.book.specs.Refusals.{refused, refusalOf}
 use Rattle.book.specs.Accepted.{Accepted}
 use Rattle.book.proofs.Acceptance.{refused-with-none}
-use Rattle.layout.specs.Written.{written}
-use Rattle.netting.specs.Netted.{Netted, differingRefusal, overRefusal, orNext, issuesRefusal, roomRefusal, nettedBook, comparisonsOf, nettingRefusal, nettedOf, nettingOutput}
-use Rattle.netting.specs.Inner.Writing.{refusedNetting}
-
--- ---- the first of two refusals
-pub or-first : (refusal next : Refusal) → (refusal .number ≡ 0 → ⊥) → orNext refusal next ≡ refusal
-unfolding orNext
-or-first refusal next some = rw (ne-eqb (refusal .number) 0 some)
-
-pub or-next : (refusal next : Refusal) → refusal .number ≡ 0 → orNext refusal next ≡ next
-unfolding orNext
-or-next refusal next none = rw (eq-eqb (refusal .number) 0 none)
+use Rattle.layout.specs.declared.Written.{Written}
+use Rattle.layout.specs.Room.{orNext, roomRefusal, figureOf, writtenOf, outputOf}
+use Rattle.layout.proofs.Room.{or-first, or-next, no-figure, whole-figure, output-kept}
+use Rattle.netting.specs.Netted.{Netted, differingRefusal, overRefusal, issuesRefusal, nettedBook, comparisonsOf, nettingRefusal, nettedOf, nettingOutput}
+use Rattle.netting.specs.Inner.Nets.{refusedNetting}
 
 module _ (s : List ℕ) where
   -- the book's own refusal, and else 13 and 14
@@ -43,21 +34,38 @@ module _ (s : List ℕ) where
     with-refusal : (refusal : Refusal) → nettingRefusal s (length out) ≡ refusal → (refusal .number ≡ 0 → ⊥) → Answers (refusedNetting refusal) out
     unfolding nettedOf nettingOutput refusedNetting
     with-refusal refusal e some =
-        record { is = rw (e, ne-eqb (refusal .number) 0 some); output = rw (e, ne-eqb (refusal .number) 0 some) }
+        record {
+          is = rw (e, no-figure refusal some (length (nettedBook s)), no-figure refusal some (comparisonsOf s));
+          output = rw e (sym (output-kept refusal some (nettedBook s) out));
+        }
 
     -- refused before the output is looked at
     pub turned-away : (refusal : Refusal) → issuesRefusal s ≡ refusal → (refusal .number ≡ 0 → ⊥) → Answers (refusedNetting refusal) out
     unfolding nettingRefusal
     turned-away refusal e some = with-refusal refusal (rw e (or-first refusal _ some)) some
 
-    module _ (none : issuesRefusal s .number ≡ 0) where
-      pub too-short : length out < length (nettedBook s) → Answers (refusedNetting (refused 12 0)) out
-      unfolding nettingRefusal roomRefusal refused
-      too-short h = with-refusal (refused 12 0) (or-next (issuesRefusal s) _ none ∙ rw (lt-ltb _ _ h)) (λ e. omega arith)
+    -- the netted book written, or 12
+    module _ (none : issuesRefusal s .number ≡ 0) {book : List ℕ} (is-book : book ≡ nettedBook s) (done : Written)
+        (is-done : done ≡ writtenOf (roomRefusal (length book) (length out)) book) {after : List ℕ} (is-after : after ≡ outputOf (done .refusal) book out) where
+      found : nettingRefusal s (length out) ≡ done .refusal
+      unfolding nettingRefusal writtenOf
+      found = or-next (issuesRefusal s) _ none ∙ rw (← is-book) (sym (ap (λ (w : Written). w .refusal) is-done))
 
-      pub carried-out : length (nettedBook s) ≤ length out
-          → Answers (record { refusal = refused 0 0; length = length (nettedBook s); comparisons = comparisonsOf s }) (written out 0 (nettedBook s))
-      unfolding nettingRefusal roomRefusal nettedOf nettingOutput refused
-      carried-out h =
-          let fits : nettingRefusal s (length out) ≡ refused 0 0 = or-next (issuesRefusal s) _ none ∙ rw (le-ltb _ _ h) in
-          record { is = rw fits; output = rw fits }
+      pub too-short : (done .refusal .number ≡ 0 → ⊥) → Answers (refusedNetting (done .refusal)) after
+      too-short some = rw (is-after ∙ output-kept (done .refusal) some book out) (with-refusal (done .refusal) found some)
+
+      pub carried-out : done .refusal .number ≡ 0
+          → Answers (record { refusal = done .refusal; length = done .length; comparisons = comparisonsOf s }) after
+      unfolding nettedOf nettingOutput writtenOf
+      carried-out enough =
+          record {
+            is = rw (found, long, whole-figure (done .refusal) enough (length (nettedBook s)), whole-figure (done .refusal) enough (comparisonsOf s));
+            output = is-after ∙ rw (found, is-book);
+          }
+        where
+          long : done .length ≡ length (nettedBook s)
+          long =
+              ap (λ (w : Written). w .length) is-done
+              ∙ ap (λ (refusal : Refusal). figureOf refusal (length book)) (sym (ap (λ (w : Written). w .refusal) is-done))
+              ∙ whole-figure (done .refusal) enough (length book)
+              ∙ ap length is-book

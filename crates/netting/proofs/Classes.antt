@@ -3,8 +3,8 @@
 use mathlib.Core.Path.{_≡_, sym, ap, _∙_}
 use mathlib.Core.Bool.{Bool}
 use mathlib.Core.List.{List, _++_, map}
-use Prim.Native.Nat.{ℕ, zero, suc, _+_, _-_, _≤_, _<_, _*_}
-use native.Mathlib.Nat.{zero-add, add-zero, add-suc}
+use Prim.Native.Nat.{ℕ, _+_, _-_, _≤_, _<_, _*_}
+use native.Mathlib.Nat.{zero-add, add-zero}
 use native.Mathlib.Numerals.{lt-of-le-of-ne}
 use native.Mathlib.Decide.{ℕ-discrete, decLt}
 use native.Mathlib.Omega.{arith}
@@ -13,12 +13,11 @@ use lib.ListN.{drop, length, getD, length-replicate, replicate, getD-replicate, 
 use Rattle.sums.specs.Sums.{sumOf}
 use Rattle.sums.proofs.Every.{every-implied}
 use Rattle.book.specs.declared.Row.{Row}
-use Rattle.book.specs.declared.Counts.{Counts}
 use Rattle.book.specs.Counts.{classes, countsOf, countIn, rowsBefore}
 use Rattle.book.specs.Legs.{Leg, legsOf, ofClass}
 use Rattle.book.specs.Refusals.{mostRows, refused}
 use Rattle.book.specs.Accepted.{Accepted}
-use Rattle.book.proofs.Placing.{of-four, fromClass, from-first, from-last, before-none, before-next, before-within}
+use Rattle.book.proofs.Placing.{of-four, fromClass, from-first, from-last, before-none, before-next, before-within, rows-apart}
 use Rattle.book.proofs.Walking.{classLegs, legs-by-class}
 use Rattle.issues.specs.Comparing.{comparisons}
 use Rattle.issues.specs.Agreeing.{differs}
@@ -28,7 +27,8 @@ use Rattle.netting.proofs.Places.{place-within}
 use Rattle.netting.proofs.Adding.{gathered-length}
 use Rattle.netting.proofs.Tallied.{all-before, all-at, all-past}
 use Rattle.netting.proofs.Limits.{legWith}
-use Rattle.netting.proofs.ClassRows.{found-past, found-in, class-size, rows-clean, legs-next}
+use Rattle.book.proofs.ClassRows.{class-size, rows-clean}
+use Rattle.netting.proofs.Found.{found-past, found-in, legs-next}
 
 abbrev test : List ℕ → Leg → Bool
 test s leg = differs (ofClass (leg .class) (legsOf s)) (leg .row)
@@ -62,17 +62,6 @@ zero-anywhere n m = go (decLt m n)
     go : Dec (m < n) → getD {A = ℕ} (replicate n 0) m 0 ≡ 0
     go (yes h) = getD-replicate {A = ℕ} n m 0 0 h
     go (no h) = List·getD-eq-default {A = ℕ} (replicate n 0) 0 {n = m} (omega (arith, length-replicate {A = ℕ} n 0))
-
--- the rows of a class end where those of a later one begin, or before
-before-grows : (counts : Counts) (class n : ℕ) → rowsBefore counts class ≤ rowsBefore counts (class + n)
-unfolding rowsBefore
-before-grows counts class zero = rw (add-zero class) (omega arith)
-before-grows counts class (suc n) = rw (add-suc class n) (omega (arith, before-grows counts class n))
-
-rows-apart : (counts : Counts) (class later : ℕ) → class < later → rowsBefore counts class + countIn counts class ≤ rowsBefore counts later
-rows-apart counts class later h =
-    let is : class + 1 + (later - (class + 1)) ≡ later = omega arith in
-    omega (arith, before-next counts class, before-grows counts (class + 1) (later - (class + 1)), ap (rowsBefore counts) is)
 
 pub gathered-none : (s : List ℕ) → GatheredTo s 1 0 (replicate mostRows 0) (replicate mostRows 0)
 unfolding foundInClass leftFrom comparisonsOf
@@ -112,7 +101,7 @@ module _ (s : List ℕ) (ok : Accepted s) (class compared : ℕ) (longs shorts :
       }
 
   legs : firstFound 13 (test s) first (map (legWith class) rows ++ fromClass (classLegs s) (class + 1)) ≡ differingRefusal (legsOf s)
-  legs = rw (← legs-next s ok class (now .low) high) (now .unfound)
+  legs = rw (← legs-next s class (now .low) high) (now .unfound)
 
   module _ (row compared′ : ℕ) (longs′ shorts′ : List ℕ) (did : Gathered first rows row compared′ longs shorts longs′ shorts′) where
     pub leaves : row < length rows → differingRefusal (legsOf s) ≡ refused 13 (first + row)
@@ -180,5 +169,6 @@ gathered-all s class compared longs shorts now past =
     record {
       is = rw (last, from-last (classLegs s)) at (now .unfound);
       is-compared = λ none′. sym (add-zero compared) ∙ rw last at (now .is-compared);
+      tables = λ none′. record { sized-longs = now .sized-longs; sized-shorts = now .sized-shorts };
       holds = λ none′ other low high. now .holds other low (omega arith);
     }

@@ -4,7 +4,7 @@
 use mathlib.Core.Path.{_≡_, refl, sym, ap, ap₂, fun-ext, _∙_}
 use mathlib.Core.Bool.{Bool, true, false, true≢false, cond, not, _||_, _&&_}
 use mathlib.Core.List.{List, [], _∷_}
-use Prim.Native.Nat.{ℕ, zero, suc, _+_}
+use Prim.Native.Nat.{ℕ, suc, _+_}
 use native.Mathlib.Nat.{zero-add, add-zero}
 use native.Mathlib.Decide.{ℕ-discrete}
 use native.Mathlib.Omega.{arith}
@@ -14,17 +14,13 @@ use borrow.Author.Tests.{eqb-true, eqb-false, eq-eqb, ne-eqb}
 use Rattle.sums.specs.Sums.{sumOf, sumAt, span}
 use Rattle.sums.proofs.Cases.{cond-same}
 use Rattle.sums.proofs.Sums.{sumOf-zero}
+use Rattle.sums.proofs.Spans.{sum-shift}
 use Rattle.book.specs.declared.Row.{Row}
 use Rattle.issues.specs.Issues.{has}
 use Rattle.netting.specs.Inner.Places.{firstPlace, placeOf, firstRowOf}
 use Rattle.netting.specs.Inner.Gathering.{issueNumbers, firstRowSum}
-use Rattle.netting.proofs.FirstRows.{noRow, issue-at}
-
--- the numbers from 1 on, one less each
-pub sum-shift : (f : ℕ → ℕ) (start n : ℕ) → sumOf f (span (suc start) n) ≡ sumOf (λ k. f (suc k)) (span start n)
-unfolding sumOf span
-sum-shift f start zero = refl
-sum-shift f start (suc n) = ap (λ (sum : ℕ). f (suc start) + sum) (sum-shift f (suc start) n)
+use Rattle.book.proofs.ClassRows.{noRow}
+use Rattle.netting.proofs.FirstRows.{issue-at}
 
 -- a sum over the rows by their places
 by-place : (f : Row → ℕ) (rows : List Row) → sumOf (λ j. f (getD rows j noRow)) (span 0 (length rows)) ≡ sumOf f rows

@@ -11,8 +11,8 @@ use lib.Seq.{take-suc, getD-take, length-take-le}
 use borrow.Author.Tests.{eq-eqb}
 use Rattle.book.specs.declared.Row.{Row}
 use Rattle.book.specs.Fields.{u16At}
-use Rattle.book.specs.Rows.{rowsIn, decode}
-use Rattle.book.specs.Inner.Reading.{rowOf, partRows}
+use Rattle.book.specs.Rows.{decode}
+use Rattle.book.proofs.ClassRows.{noRow}
 use Rattle.issues.specs.Issues.{has}
 use Rattle.issues.specs.Agreeing.{sameTerms, unlikeFirst, differs}
 use Rattle.netting.specs.Inner.Places.{firstPlace, placeOf, firstRowOf}
@@ -54,15 +54,6 @@ module _ (issues : List ℕ) (k : ℕ) (within : k < length issues) where
       go false = place
 
 -- ---- the row there
--- past the last row every field is zero
-abbrev pub noRow : Row
-noRow = decode []
-
--- a row of the part is one of its rows, by its fields
-pub row-is : (part : List ℕ) (k : ℕ) → rowOf part k ≡ getD (partRows part) k noRow
-unfolding rowOf
-row-is part k = sym (List·getD-map decode (rowsIn part) k [])
-
 pub issue-at : (rows : List Row) (k : ℕ) → getD (issueNumbers rows) k 0 ≡ getD rows k noRow .issue
 unfolding decode u16At
 issue-at rows k = List·getD-map (λ row. row .issue) rows k noRow

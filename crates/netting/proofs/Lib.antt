@@ -9,8 +9,8 @@ pub mod Entries
 pub mod Settling
 pub mod Limits
 pub mod Numbers
-pub mod Bytes
-pub mod ClassRows
+pub mod Netting
+pub mod Found
 pub mod Classes
 pub mod Outcome
 pub mod Answers

@@ -20,7 +20,8 @@ use Rattle.issues.specs.Agreeing.{overLimit}
 use Rattle.issues.proofs.Walking.{issue-other}
 use Rattle.netting.specs.Netted.{firstFound}
 use Rattle.netting.specs.Inner.Gathering.{Holds}
-use Rattle.netting.specs.Inner.Nets.{positionsIn, isOver, firstNumber}
+use Rattle.amounts.specs.Inner.Standing.{positionsIn}
+use Rattle.netting.specs.Inner.Nets.{isOver, firstNumber}
 use Rattle.netting.proofs.Settling.{Stands, stands-same, stands-own, stands-nothing, stands-new, stands-issue, none-hidden, seen-hidden, OneSided, from-tables}
 
 nothing-over : isOver empty ≡ false

@@ -1,28 +1,29 @@
 -- The places of a class hold its nets: with them its rows are the netted rows.
 -- Assumes nothing.
-use mathlib.Core.Path.{_≡_, refl, sym, ap, ap₂, subst, fun-ext, _∙_}
-use mathlib.Core.Bool.{Bool, true, false, cond, not}
+use mathlib.Core.Path.{_≡_, refl, sym, ap, subst, _∙_}
+use mathlib.Core.Bool.{Bool, true, false, cond}
 use mathlib.Core.Logic.{_⊎_, inl, inr}
 use mathlib.Core.List.{List, [], _∷_}
 use Prim.Native.Nat.{ℕ, suc, _+_, _≤_, _<_}
-use native.Mathlib.Nat.{zero-add, add-zero, add-suc, suc-add}
+use native.Mathlib.Nat.{add-zero, add-suc, suc-add}
 use native.Mathlib.Omega.{arith}
 use lib.Dec.{eqb}
 use lib.ListN.{length}
-use borrow.Author.Tests.{eqb-true, eqb-false, ne-eqb}
-use Rattle.sums.specs.Every.{Every, none, also}
-use Rattle.sums.specs.Sums.{sumOf, span}
+use borrow.Author.Tests.{eqb-true, eqb-false}
+use Rattle.sums.specs.Every.{Every, also}
 use Rattle.book.specs.declared.Row.{Row}
 use Rattle.book.specs.Refusals.{mostAmount}
 use Rattle.book.specs.Accepted.{Clean}
 use Rattle.ladder.specs.declared.positions.Position.{Position}
 use Rattle.ladder.specs.Position.{Bands, empty, gross, matched, net}
 use Rattle.ladder.proofs.Matching.{same-position, net-sides}
-use Rattle.issues.specs.Issues.{issuesOf, has, holding, placed, nettedFrom, nettedRows}
+use Rattle.issues.specs.Issues.{issuesOf, has, placed, nettedFrom, nettedRows}
 use Rattle.netting.specs.Inner.Gathering.{Holds}
-use Rattle.netting.specs.Inner.Nets.{positionsIn, isLeft, leftRows, settledRows}
+use Rattle.amounts.specs.Inner.Own.{amountsOf}
+use Rattle.amounts.proofs.Standing.{placed-own, clean-some, clean-within}
+use Rattle.amounts.specs.Inner.Standing.{positionsIn, standingRows}
 use Rattle.netting.proofs.Adding.{no-long, no-short}
-use Rattle.netting.proofs.Entries.{sum-shift, seenSum, unseen, rest-same, rest-new, here-own, here-seen, here-new}
+use Rattle.netting.proofs.Entries.{seenSum, unseen, rest-same, rest-new, here-own, here-seen, here-new}
 
 -- ---- what stands at the places of some rows, after others whose issues were seen
 abbrev pub seenPosition : List ℕ → List Row → ℕ → Position
@@ -43,7 +44,7 @@ module _ (f : Bands) (seen : List ℕ) (at : ℕ) (row : Row) (rows : List Row) 
     pub stands-same : Stands f seen (suc at) rows
     stands-same = beyond seen (λ k. rw (rest-same (λ r. r .long) seen row rows hidden k, rest-same (λ r. r .short) seen row rows hidden k))
 
-    pub stands-own : row .issue ≡ 0 → f at ≡ record { long = row .long; short = row .short }
+    pub stands-own : row .issue ≡ 0 → f at ≡ amountsOf row
     stands-own none′ = here ∙ rw (here-own (λ r. r .long) seen row rows hidden none′, here-own (λ r. r .short) seen row rows hidden none′)
 
     pub stands-nothing : (row .issue ≡ 0 → ⊥) → has seen (row .issue) ≡ true → f at ≡ empty
@@ -65,9 +66,9 @@ seen-hidden seen i old x ez eo = subst (λ (j : ℕ). has seen j ≡ true) (eqb-
 
 -- ---- a row that is long or short keeps its amounts
 pub record OneSided (row : Row) : Type 0 where
-  pub is-net : net (record { long = row .long; short = row .short }) ≡ record { long = row .long; short = row .short }
-  pub some : eqb (row .long + row .short) 0 ≡ false
-  pub within : row .long + row .short ≤ mostAmount
+  pub is-net : net (amountsOf row) ≡ amountsOf row
+  pub some : gross (amountsOf row) ≡ 0 → ⊥
+  pub within : gross (amountsOf row) ≤ mostAmount
 
 net-of-longs : (a : Position) → a .short ≡ 0 → net a ≡ a
 net-of-longs a e = same-position (omega (arith, net-sides a)) (omega (arith, net-sides a))
@@ -76,25 +77,19 @@ net-of-shorts : (a : Position) → a .long ≡ 0 → net a ≡ a
 net-of-shorts a e = same-position (omega (arith, net-sides a)) (omega (arith, net-sides a))
 
 pub clean-sided : {class : ℕ} {row : Row} → Clean class row → OneSided row
-clean-sided {class} {row} clean = go (clean .one-side)
+clean-sided {class} {row} clean = record { is-net = go (clean .one-side); some = clean-some clean; within = clean-within clean }
   where
-    go : ((0 < row .long) × (row .short ≡ 0)) ⊎ ((row .long ≡ 0) × (0 < row .short)) → OneSided row
-    go (inl h) =
-        record { is-net = net-of-longs _ (h .1); some = ne-eqb (row .long + row .short) 0 (λ e. omega (arith, h .0)); within = omega (arith, h .1, clean .long) }
-    go (inr h) =
-        record { is-net = net-of-shorts _ (h .0); some = ne-eqb (row .long + row .short) 0 (λ e. omega (arith, h .1)); within = omega (arith, h .0, clean .short) }
-
-placed-own : (row : Row) → OneSided row → (more : List Row) → placed row (net (record { long = row .long; short = row .short })) more ≡ row ∷ more
-unfolding placed
-placed-own row own more = rw (own .is-net, own .some)
+    go : ((0 < row .long) × (row .short ≡ 0)) ⊎ ((row .long ≡ 0) × (0 < row .short)) → net (amountsOf row) ≡ amountsOf row
+    go (inl h) = net-of-longs (amountsOf row) (h .1)
+    go (inr h) = net-of-shorts (amountsOf row) (h .0)
 
 placed-nothing : (row : Row) (more : List Row) → placed row (net empty) more ≡ more
 unfolding placed net matched
 placed-nothing row more = refl
 
 -- ---- the rows with their nets
-settled-from : (f : Bands) (seen : List ℕ) (at : ℕ) (rows : List Row) → Stands f seen at rows → Every OneSided rows → settledRows f at rows ≡ nettedFrom seen rows
-unfolding settledRows nettedFrom
+settled-from : (f : Bands) (seen : List ℕ) (at : ℕ) (rows : List Row) → Stands f seen at rows → Every OneSided rows → standingRows (λ k. net (f k)) at rows ≡ nettedFrom seen rows
+unfolding standingRows nettedFrom
 settled-from f seen at [] stands sided = refl
 settled-from f seen at (row ∷ rows) stands (also own sided) =
     go (eqb (row .issue) 0) refl (has seen (row .issue)) refl (λ seen′ later. settled-from f seen′ (suc at) rows later sided)
@@ -103,13 +98,14 @@ settled-from f seen at (row ∷ rows) stands (also own sided) =
     i = row .issue
 
     go : (zero? : Bool) → eqb i 0 ≡ zero? → (old? : Bool) → has seen i ≡ old?
-        → ((seen′ : List ℕ) → Stands f seen′ (suc at) rows → settledRows f (suc at) rows ≡ nettedFrom seen′ rows)
-        → placed row (net (f at)) (settledRows f (suc at) rows)
+        → ((seen′ : List ℕ) → Stands f seen′ (suc at) rows → standingRows (λ k. net (f k)) (suc at) rows ≡ nettedFrom seen′ rows)
+        → placed row (net (f at)) (standingRows (λ k. net (f k)) (suc at) rows)
         ≡ cond zero? (row ∷ nettedFrom seen rows)
         (cond old? (nettedFrom seen rows) (placed row (net (issuesOf (row ∷ rows) i)) (nettedFrom (i ∷ seen) rows)))
     go true e old? o on =
         let hidden = none-hidden seen i (eqb-true i 0 e) in
-        rw (stands-own f seen at row rows stands hidden (eqb-true i 0 e), on seen (stands-same f seen at row rows stands hidden)) (placed-own row own (nettedFrom seen rows))
+        rw (stands-own f seen at row rows stands hidden (eqb-true i 0 e), on seen (stands-same f seen at row rows stands hidden), own .is-net)
+        (placed-own row (own .some) (nettedFrom seen rows))
     go false e true o on =
         let hidden = seen-hidden seen i o in
         rw (stands-nothing f seen at row rows stands hidden (eqb-false i 0 e) o, on seen (stands-same f seen at row rows stands hidden)) (placed-nothing row (nettedFrom seen rows))
@@ -126,25 +122,5 @@ from-tables longs shorts first rows holds =
     }
 
 pub settled-netted : (longs shorts : List ℕ) (first : ℕ) (rows : List Row) → Holds first rows longs shorts → Every OneSided rows
-    → settledRows (positionsIn longs shorts) first rows ≡ nettedRows rows
+    → standingRows (λ k. net (positionsIn longs shorts k)) first rows ≡ nettedRows rows
 settled-netted longs shorts first rows holds sided = settled-from _ [] first rows (from-tables longs shorts first rows holds) sided
-
--- as many as do not net to zero
-placed-length : (row : Row) (position : Position) (more : List Row) → length (placed row position more) ≡ cond (not (eqb (gross position) 0)) 1 0 + length more
-unfolding placed
-placed-length row position more = go (eqb (gross position) 0)
-  where
-    go : (none : Bool) → length (cond none more (holding row position ∷ more)) ≡ cond (not none) 1 0 + length more
-    go true = sym (zero-add (length more))
-    go false = omega arith
-
-pub settled-length : (f : Bands) (at : ℕ) (rows : List Row) → length (settledRows f at rows) ≡ leftRows f at (length rows)
-unfolding settledRows sumOf span
-settled-length f at [] = refl
-settled-length f at (row ∷ rows) =
-    placed-length row (net (f at)) (settledRows f (suc at) rows)
-    ∙ ap₂ _+_
-    (ap (λ (k : ℕ). cond (isLeft (f k)) 1 0) (sym (add-zero at)))
-    (settled-length f (suc at) rows
-    ∙ sym (sum-shift (λ k. cond (isLeft (f (at + k))) 1 0) 0 (length rows)
-    ∙ ap (λ (g : ℕ → ℕ). sumOf g (span 0 (length rows))) (fun-ext (λ k. ap (λ (m : ℕ). cond (isLeft (f m)) 1 0) (add-suc at k ∙ sym (suc-add at k))))))

@@ -2,4 +2,3 @@
 pub mod Places
 pub mod Gathering
 pub mod Nets
-pub mod Writing

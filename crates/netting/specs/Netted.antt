@@ -3,15 +3,14 @@ use Prim.Native.Nat.{ℕ, suc}
 use mathlib.Core.Bool.{Bool, cond}
 use mathlib.Core.List.{List, [], _∷_}
 use lib.ListN.{length}
-use lib.Dec.{ltb, eqb}
 use Rattle.book.specs.declared.Row.{Row}
 use Rattle.book.specs.declared.Refusal.{Refusal}
 use Rattle.sums.specs.Sums.{sumOf}
 use Rattle.book.specs.Counts.{classes}
 use Rattle.book.specs.Legs.{Leg, legsOf, ofClass}
 use Rattle.book.specs.Refusals.{refused, refusalOf}
-use Rattle.layout.specs.Written.{written}
 use Rattle.layout.specs.Files.{bookBy}
+use Rattle.layout.specs.Room.{orNext, roomRefusal, figureOf, outputOf}
 use Rattle.issues.specs.Issues.{nettedRows}
 use Rattle.issues.specs.Comparing.{comparisons}
 use Rattle.issues.specs.Agreeing.{differs, overLimit}
@@ -35,17 +34,9 @@ differingRefusal = foundInClass 13 differs
 abbrev pub overRefusal : List Leg → Refusal
 overRefusal = foundInClass 14 overLimit
 
--- the first of two refusals that applies
-unfoldable pub orNext : Refusal → Refusal → Refusal
-orNext refusal next = cond (eqb (refusal .number) 0) next refusal
-
 -- the refusal of a book that is to be netted: its own; then 13 over the whole file; then 14 (P1)
 unfoldable pub issuesRefusal : List ℕ → Refusal
 issuesRefusal s = orNext (refusalOf s) (orNext (differingRefusal (legsOf s)) (overRefusal (legsOf s)))
-
--- 12: an output shorter than the result (document 01, Who is told no, and why)
-unfoldable pub roomRefusal : (size room : ℕ) → Refusal
-roomRefusal size room = cond (ltb room size) (refused 12 0) (refused 0 0)
 
 -- ---- what is written
 -- the netted rows of each class of a book (P1)
@@ -65,15 +56,15 @@ comparisonsOf s = sumOf (λ class. comparisons (ofClass class (legsOf s))) class
 unfoldable pub nettingRefusal : List ℕ → ℕ → Refusal
 nettingRefusal s room = orNext (issuesRefusal s) (roomRefusal (length (nettedBook s)) room)
 
--- the answer: the refusal, the length of the netted book (P1) and the comparisons (P7), 0 where it is refused
+-- the answer: the refusal, the length of the netted book (P1) and the comparisons (P7)
 unfoldable pub nettedOf : List ℕ → ℕ → Netted
 nettedOf s room =
     record {
       refusal = nettingRefusal s room;
-      length = cond (eqb (nettingRefusal s room .number) 0) (length (nettedBook s)) 0;
-      comparisons = cond (eqb (nettingRefusal s room .number) 0) (comparisonsOf s) 0;
+      length = figureOf (nettingRefusal s room) (length (nettedBook s));
+      comparisons = figureOf (nettingRefusal s room) (comparisonsOf s);
     }
 
--- the output afterwards: the netted book at its start, the bytes past it as they were; of a refused call all of them (P1)
+-- the output afterwards (P1)
 unfoldable pub nettingOutput : List ℕ → List ℕ → List ℕ
-nettingOutput s out = cond (eqb (nettingRefusal s (length out) .number) 0) (written out 0 (nettedBook s)) out
+nettingOutput s out = outputOf (nettingRefusal s (length out)) (nettedBook s) out

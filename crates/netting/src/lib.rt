@@ -2,22 +2,18 @@
 mod firsts;
 mod gathering;
 mod nets;
-mod writing;
 
 use crate::gathering::BookSums;
-use book::CONTENTS_SIZE;
 use book::Counts;
 use book::MOST_ROWS;
-use book::ROW_SIZE;
 use book::Refusal;
 ghost use mathlib.Core.Path.{_≡_};
 ghost use lib.ListN.{length as len, replicate};
 ghost use Rattle.book.specs.Counts.{countsOf};
 ghost use Rattle.book.specs.Refusals.{mostRows};
 ghost use Rattle.book.specs.Accepted.{Accepted};
-ghost use Rattle.netting.specs.Netted.{comparisonsOf, nettedOf, nettingOutput};
-ghost use Rattle.netting.specs.Inner.Nets.{Settled};
-ghost use Rattle.netting.specs.Inner.Writing.{CanBeWritten, refusedNetting};
+ghost use Rattle.netting.specs.Netted.{nettedOf, nettingOutput};
+ghost use Rattle.netting.specs.Inner.Nets.{Settled, refusedNetting};
 
 // Why netting is refused, all zero where it is not; the length of the netted book and the comparisons made, 0 where it is refused.
 pub struct Netted {
@@ -49,10 +45,19 @@ fn net_accepted(book: &[u8], counts: Counts, out: &mut [u8]) -> Netted
     if refusal.number != 0 {
         return refused(refusal);
     }
-    write_netted(book, counts, &longs, &shorts, sums.compared, out)
+    let written = amounts::write_book(book, counts, &longs, &shorts, out);
+    let room = written.refusal;
+    if room.number != 0 {
+        return refused(room);
+    }
+    Netted {
+        refusal: room,
+        length: written.length,
+        comparisons: sums.compared,
+    }
 }
 
-// The sums of an accepted book's issues in tables of zeros: 13 over the whole book, then 14; all zero where neither applies.
+// The nets of an accepted book's issues in tables of zeros: 13 over the whole book, then 14; all zero where neither applies.
 fn settle(
     book: &[u8],
     counts: Counts,
@@ -67,35 +72,11 @@ fn settle(
     if differing.number != 0 {
         return sums;
     }
+    let over = nets::first_over(longs, shorts, counts.rows());
+    nets::net_each(longs, shorts, counts.rows());
     BookSums {
-        refusal: nets::first_over(longs, shorts, counts.rows()),
+        refusal: over,
         compared: sums.compared,
-    }
-}
-
-// Writes the netted book by the nets of its issues, unless the output is too short: 12.
-fn write_netted(
-    book: &[u8],
-    counts: Counts,
-    longs: &[u64; MOST_ROWS],
-    shorts: &[u64; MOST_ROWS],
-    compared: usize,
-    out: &mut [u8],
-) -> Netted
-    requires { ⌜ (counts ≡ countsOf (now book)) × CanBeWritten (now book) (now longs) (now shorts) × (compared ≡ comparisonsOf (now book)) ⌝ }
-    ensures { λ r. ⌜ (r ≡ nettedOf (now (book .entry)) (len (now (out .entry)))) × (now (out .exit) ≡ nettingOutput (now (book .entry)) (now (out .entry))) ⌝ }
-{
-    let left = nets::left_counts(longs, shorts, counts);
-    let length = CONTENTS_SIZE + ROW_SIZE * left.rows();
-    if out.len() < length {
-        return refused(book::refused(12, 0));
-    }
-    layout::contents::write_contents(left, out);
-    writing::write_bodies(book, counts, longs, shorts, out);
-    Netted {
-        refusal: book::refused(0, 0),
-        length,
-        comparisons: compared,
     }
 }
 

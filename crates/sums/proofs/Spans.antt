@@ -25,6 +25,12 @@ unfolding span
 in-span k start (suc n) (List·Memᴰ·head own) = omega arith
 in-span k start (suc n) (List·Memᴰ·tail later) = omega (arith, in-span k (suc start) n later)
 
+-- a sum over the numbers from 1 on, one less each
+pub sum-shift : (f : ℕ → ℕ) (start n : ℕ) → sumOf f (span (suc start) n) ≡ sumOf (λ k. f (suc k)) (span start n)
+unfolding sumOf span
+sum-shift f start zero = refl
+sum-shift f start (suc n) = ap (λ (sum : ℕ). f (suc start) + sum) (sum-shift f (suc start) n)
+
 -- ---- x at one number, and nothing at every other
 abbrev pub slot : ℕ → ℕ → ℕ → ℕ
 slot j x k = cond (eqb j k) x 0

@@ -111,6 +111,14 @@ pub fn net(book: &[u8], out: &mut [u8]) {
     end();
 }
 
+pub fn offset(book: &[u8], out: &mut [u8]) {
+    let left = offsetting::offset(book, out);
+    start(b"offset", left.refusal);
+    figure(left.length as u64);
+    figure(checksum(out));
+    end();
+}
+
 fn wide(byte: u8) -> u64
     ensures { λ r. ⌜ r < 256 ⌝ }
 {

@@ -60,7 +60,7 @@ fn answer_join(in_runs: bool) -> bool {
     write_into(5, &a[..m], &b[..n], room)
 }
 
-// Joins two books, or nets the first, into an output of as many bytes as there is room for, each 165 before.
+// Joins two books, nets the first or offsets it, into an output of as many bytes as there is room for, each 165 before.
 fn write_into(call: u8, a: &[u8], b: &[u8], room: usize) -> bool {
     let mut out = [165u8; 65536];
     if out.len() < room {
@@ -68,12 +68,14 @@ fn write_into(call: u8, a: &[u8], b: &[u8], room: usize) -> bool {
     }
     match call {
         5 => lines::join(a, b, &mut out[..room]),
-        _ => lines::net(a, &mut out[..room]),
+        10 => lines::net(a, &mut out[..room]),
+        _ => lines::offset(a, &mut out[..room]),
     }
     true
 }
 
-fn answer_net(in_runs: bool) -> bool {
+// A call that writes one book.
+fn answer_written(call: u8, in_runs: bool) -> bool {
     let room = input::read_u32();
     let length = input::read_u32();
     let mut space = io::large_buffer();
@@ -81,7 +83,7 @@ fn answer_net(in_runs: bool) -> bool {
     if n != length {
         return false;
     }
-    write_into(10, &space[..n], b"", room)
+    write_into(call, &space[..n], b"", room)
 }
 
 // Answers the next call of the stream, and whether there was one.
@@ -96,7 +98,7 @@ fn answer_next() -> bool {
         7 => answer_by_table(3, in_runs),
         8 => answer_table(),
         9 => answer_standard(call, in_runs),
-        10 => answer_net(in_runs),
+        10..=11 => answer_written(call, in_runs),
         _ => false,
     }
 }

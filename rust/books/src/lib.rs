@@ -9,6 +9,7 @@ pub mod damage;
 pub mod file;
 pub mod generate;
 pub mod issues;
+pub mod legs;
 pub mod names;
 pub mod random;
 pub mod small;

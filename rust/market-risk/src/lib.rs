@@ -21,12 +21,14 @@
 //! calls with the results of the C interface, entry by entry.
 
 mod net;
+mod offset;
 pub mod raw;
 mod refusal;
 mod small_bank;
 mod table;
 
 pub use net::{net, netted, Netted};
+pub use offset::{offset, offset_book};
 pub use refusal::Refusal;
 pub use small_bank::{small_bank, SmallBank};
 pub use table::{PerCents, Table};

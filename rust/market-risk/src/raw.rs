@@ -47,6 +47,13 @@ mod c {
             out_len: usize,
             result: *mut u64,
         );
+        pub fn market_risk_offset(
+            book: *const u8,
+            len: usize,
+            out: *mut u8,
+            out_len: usize,
+            result: *mut u64,
+        );
     }
 }
 
@@ -126,6 +133,20 @@ pub fn net(book: &[u8], out: &mut [u8], result: &mut [u64; 5]) {
     // SAFETY: as in `check`; `out` does not overlap the book, since it is borrowed alone.
     unsafe {
         c::market_risk_net(
+            book.as_ptr(),
+            book.len(),
+            out.as_mut_ptr(),
+            out.len(),
+            result.as_mut_ptr(),
+        )
+    }
+}
+
+/// Number, row, book; the length of the written book at the front of `out`.
+pub fn offset(book: &[u8], out: &mut [u8], result: &mut [u64; 4]) {
+    // SAFETY: as in `net`.
+    unsafe {
+        c::market_risk_offset(
             book.as_ptr(),
             book.len(),
             out.as_mut_ptr(),

@@ -153,7 +153,7 @@ fn every_number_that_is_given_has_words() {
 fn every_entry_is_written() {
     let marked = u64::MAX;
     let (mut check, mut charge) = ([marked; 3], [marked; 75]);
-    let (mut join, mut net) = ([marked; 4], [marked; 5]);
+    let (mut join, mut net, mut offset) = ([marked; 4], [marked; 5], [marked; 4]);
     let (mut interest, mut commodity) = ([marked; 13], [marked; 7]);
     let mut small_bank = [marked; 6];
     let table = Table::amendment();
@@ -165,6 +165,7 @@ fn every_entry_is_written() {
         raw::small_bank(book, &mut small_bank);
         raw::join(book, &[0; 8], &mut [0; 8], &mut join);
         raw::net(book, &mut [0; 8], &mut net);
+        raw::offset(book, &mut [0; 8], &mut offset);
         let results = [
             &mut check[..],
             &mut charge,
@@ -173,6 +174,7 @@ fn every_entry_is_written() {
             &mut small_bank,
             &mut join,
             &mut net,
+            &mut offset,
         ];
         for out in results {
             assert!(!out.contains(&marked));

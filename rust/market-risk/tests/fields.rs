@@ -1,8 +1,8 @@
 //! Each named field against its entry of the C interface, on books whose entries differ.
 //! Catches two fields that are exchanged, and one that is read from another's entry.
 
-use market_risk::{charge, commodity_ladder, interest_ladder, join, joined, net, netted, raw};
-use market_risk::{small_bank, Refusal, Table};
+use market_risk::{charge, commodity_ladder, interest_ladder, join, joined, net, netted, offset};
+use market_risk::{offset_book, raw, small_bank, Refusal, Table};
 
 /// A row of 16 bytes with one signed amount: long above zero, short below.
 fn row(group: u8, kind: u8, days: u16, coupon: u16, net: i32) -> [u8; 16] {
@@ -238,4 +238,26 @@ fn netting_and_its_refusals() {
     let [number, row, book, ..] = entries;
     assert_eq!(netted(&bad), Err(Refusal { number, row, book }));
     assert_eq!(net(&bad, &mut out), Err(Refusal { number, row, book }));
+}
+
+#[test]
+fn offsetting_and_its_refusals() {
+    // Rows 0 and 2 offset each other.
+    let mut rows = [(1080, 10), (270, 3), (1090, -10)].map(|(days, net)| row(7, 1, days, 800, net));
+    let whole = book([&rows, &[], &[], &[]]);
+    let expected = book([&rows[1..2], &[], &[], &[]]);
+    let (mut out, mut entries) = (vec![9; 30], [0; 4]);
+    raw::offset(&whole, &mut out, &mut entries);
+    assert_eq!(entries, [0, 0, 0, 8 + 16]);
+    assert_eq!(out, [&expected[..], &[9; 6]].concat());
+    assert_eq!(offset(&whole, &mut out), Ok(24));
+    assert_eq!(offset_book(&whole), Ok(expected));
+    // Number and row differ: 36,001 days in row 2.
+    rows[2][2..4].copy_from_slice(&36_001u16.to_le_bytes());
+    let bad = book([&rows, &[], &[], &[]]);
+    raw::offset(&bad, &mut out, &mut entries);
+    assert_eq!(entries, [6, 2, 0, 0]);
+    let [number, row, book, _] = entries;
+    assert_eq!(offset_book(&bad), Err(Refusal { number, row, book }));
+    assert_eq!(offset(&bad, &mut out), Err(Refusal { number, row, book }));
 }

@@ -1,6 +1,6 @@
 //! Results as the calls lay them out: number, row, book, and then the figures.
 
-use crate::{CommodityLadder, InterestLadder, Joined, Netted, Refusal, Report, SmallBank};
+use crate::{CommodityLadder, InterestLadder, Joined, Netted, Offset, Refusal, Report, SmallBank};
 
 /// A refusal and figures, of which there must be as many as the call gives.
 fn laid_out<const N: usize>(refusal: Refusal, figures: &[u64]) -> [u64; N] {
@@ -72,6 +72,13 @@ impl Netted {
     /// The refusal, the length and the comparisons.
     pub fn entries(&self) -> [u64; 5] {
         laid_out(self.refusal, &[self.length, self.comparisons])
+    }
+}
+
+impl Offset {
+    /// The refusal and the length.
+    pub fn entries(&self) -> [u64; 4] {
+        laid_out(self.refusal, &[self.length])
     }
 }
 

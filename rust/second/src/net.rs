@@ -1,8 +1,9 @@
 //! Netting one issue (document 02, P1). The Amendment allows it: long and short positions in the
 //! same issue may be set off (A.1, 3, 10 and 20; A.2, 1 and 6).
 
-use crate::book::{read, Class, Refusal, Row, CLASSES, LIMIT};
+use crate::book::{read, Class, Refusal, Row, LIMIT};
 use crate::comparisons::comparisons;
+use crate::written::{file, write};
 use std::collections::HashMap;
 
 /// What netting gives: the refusal, or the length of the netted book and how many comparisons it
@@ -94,21 +95,17 @@ impl Issues {
 
     /// The bytes of the netted book: of a file whose issues are not refused.
     fn bytes(&self, book: &[u8]) -> Vec<u8> {
-        let mut kept = self.places();
-        kept.retain(|at| self.net(*at) != 0);
-        let mut bytes = Vec::new();
-        for class in CLASSES {
-            let own = kept.iter().filter(|at| self.rows[**at].class == class);
-            let count = u16::try_from(own.count()).expect("at most 4,000 rows");
-            bytes.extend(count.to_le_bytes());
-        }
-        for at in kept {
+        let row = |at: usize| {
             let net = self.net(at);
             let (long, short) = (net.max(0) as u32, (-net).max(0) as u32);
-            bytes.extend_from_slice(&book[8 + 16 * at..16 + 16 * at]);
-            bytes.extend([long.to_le_bytes(), short.to_le_bytes()].concat());
-        }
-        bytes
+            let amounts = [long.to_le_bytes(), short.to_le_bytes()].concat();
+            [&book[8 + 16 * at..16 + 16 * at], &amounts].concat()
+        };
+        let mut kept = self.places();
+        kept.retain(|at| self.net(*at) != 0);
+        let kept = kept.into_iter();
+        let rows: Vec<_> = kept.map(|at| (self.rows[at].class, row(at))).collect();
+        file(&rows)
     }
 }
 
@@ -123,20 +120,15 @@ pub fn netted(book: &[u8]) -> Result<Vec<u8>, Refusal> {
 
 /// Writes the netted book to the front of `out`; the bytes past it keep their values.
 pub fn net(book: &[u8], out: &mut [u8]) -> Netted {
-    let refused = |refusal| Netted {
-        refusal,
-        ..Netted::default()
-    };
-    match netted(book) {
-        Err(refusal) => refused(refusal),
-        Ok(bytes) if out.len() < bytes.len() => refused(Refusal::of(12)),
-        Ok(bytes) => {
-            out[..bytes.len()].copy_from_slice(&bytes);
-            Netted {
-                refusal: Refusal::NONE,
-                length: bytes.len() as u64,
-                comparisons: comparisons(book),
-            }
-        }
+    match netted(book).and_then(|bytes| write(&bytes, out)) {
+        Err(refusal) => Netted {
+            refusal,
+            ..Netted::default()
+        },
+        Ok(length) => Netted {
+            refusal: Refusal::NONE,
+            length,
+            comparisons: comparisons(book),
+        },
     }
 }

@@ -1,8 +1,8 @@
-//! The eight calls with the results of the C interface, by whichever calculation.
+//! The nine calls with the results of the C interface, by whichever calculation.
 
 use market_risk::raw;
 
-/// A calculation that answers all eight calls, writing every entry of each result.
+/// A calculation that answers all nine calls, writing every entry of each result.
 pub trait Calls {
     /// What the calculation is called in a message. No two have the same name.
     fn name(&self) -> &'static str;
@@ -21,6 +21,8 @@ pub trait Calls {
     fn join(&self, a: &[u8], b: &[u8], out: &mut [u8], result: &mut [u64; 4]);
     /// Number, row, book; length; comparisons.
     fn net(&self, book: &[u8], out: &mut [u8], result: &mut [u64; 5]);
+    /// Number, row, book; length.
+    fn offset(&self, book: &[u8], out: &mut [u8], result: &mut [u64; 4]);
     /// Document 01's table.
     fn table(&self, out: &mut [u8; 36]);
 }
@@ -52,6 +54,9 @@ impl Calls for Proved {
     }
     fn net(&self, book: &[u8], out: &mut [u8], result: &mut [u64; 5]) {
         raw::net(book, out, result);
+    }
+    fn offset(&self, book: &[u8], out: &mut [u8], result: &mut [u64; 4]) {
+        raw::offset(book, out, result);
     }
     fn table(&self, out: &mut [u8; 36]) {
         raw::table(out);
@@ -92,6 +97,10 @@ impl Calls for Second {
 
     fn net(&self, book: &[u8], out: &mut [u8], result: &mut [u64; 5]) {
         *result = second::net(book, out).entries();
+    }
+
+    fn offset(&self, book: &[u8], out: &mut [u8], result: &mut [u64; 4]) {
+        *result = second::offset(book, out).entries();
     }
 
     fn table(&self, out: &mut [u8; 36]) {

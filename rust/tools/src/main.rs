@@ -10,6 +10,7 @@ mod join;
 mod ladder;
 mod lines;
 mod net;
+mod offset;
 mod pack;
 mod progress;
 mod report;
@@ -18,6 +19,7 @@ mod table;
 mod text;
 mod unpack;
 mod vectors;
+mod written;
 
 use cli::{Command, Outcome};
 use std::ffi::OsString;
@@ -25,7 +27,7 @@ use std::io::Write;
 use std::process::ExitCode;
 
 /// The subcommands, in the order of the help text.
-const COMMANDS: [Command; 11] = [
+const COMMANDS: [Command; 12] = [
     pack::COMMAND,
     unpack::COMMAND,
     report::COMMAND,
@@ -33,6 +35,7 @@ const COMMANDS: [Command; 11] = [
     small_bank::COMMAND,
     join::COMMAND,
     net::COMMAND,
+    offset::COMMAND,
     table::COMMAND,
     compare::COMMAND,
     bench::COMMAND,

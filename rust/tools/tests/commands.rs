@@ -16,6 +16,7 @@ fn help_for_all_and_each() {
         "small-bank",
         "join",
         "net",
+        "offset",
         "table",
         "compare",
         "bench",
@@ -31,7 +32,7 @@ fn help_for_all_and_each() {
 }
 
 /// What the report of each sample has, in whole currency units unless it is shown.
-const SAMPLES: [(&str, &str); 11] = [
+const SAMPLES: [(&str, &str); 13] = [
     ("equity", "0 0 8,800 4,800 0 0 13,600"),
     ("swap", "213,280 4,580,112.500 0 0 0 0 4,793,392.500"),
     ("keyed", "0 735 0 0 0 0 735"),
@@ -46,6 +47,8 @@ const SAMPLES: [(&str, &str); 11] = [
     ("floating", "38,000 38,140 0 0 0 0 76,140"),
     ("netting", "5,440 1,145 5,600 2,400 0 0 14,585"),
     ("netted", "960 1,071 2,400 2,400 0 0 6,831"),
+    ("offsetting", "1,920 817 0 0 0 0 2,737"),
+    ("offset", "1,920 812 0 0 0 0 2,732"),
 ];
 
 #[test]
@@ -72,6 +75,7 @@ fn packed_samples_unpack_to_the_same_book() {
         "mixed",
         "floating",
         "netting",
+        "offsetting",
     ] {
         let book = packed(name, "unpack");
         let (text, again) = (
@@ -83,7 +87,7 @@ fn packed_samples_unpack_to_the_same_book() {
         assert_eq!(fs::read(&book).unwrap(), fs::read(&again).unwrap());
     }
     // The sorted samples come back letter by letter.
-    for name in ["swap", "floating", "netting"] {
+    for name in ["swap", "floating", "netting", "offsetting"] {
         let text = prints(&["unpack", &packed(name, "letters"), "-"]);
         assert_eq!(text, fs::read_to_string(sample(name)).unwrap());
     }
@@ -245,6 +249,7 @@ fn csv_text_is_told_from_a_book() {
         &["join", &csv, &book, &out],
         &["join", &book, &csv, &out],
         &["net", &csv, &out],
+        &["offset", &csv, &out],
     ] {
         let told = fails(1, words);
         assert!(told.contains("keyed.csv: looks like CSV text"), "{told}");

@@ -111,6 +111,7 @@ fn an_output_over_an_input_is_refused() {
         "join x.book y.book y.book",
         "join x.book x.book x.book",
         "net x.book x.book",
+        "offset x.book x.book",
         "table x.csv --out x.csv",
         "table soft.csv --out x.csv",
     ] {
@@ -118,13 +119,16 @@ fn an_output_over_an_input_is_refused() {
         assert!(told.contains("are one file"), "{words}: {told}");
         assert_eq!(read(), before, "{words}");
     }
-    for text in ["\"$1\" pack - x.csv <x.csv", "\"$1\" pack x.csv - >>x.csv"] {
-        assert!(error(2, script(&folder, text)).contains("are one file"));
+    for text in [
+        "pack - x.csv <x.csv",
+        "pack x.csv - >>x.csv",
+        "net - x.book <x.book",
+        "offset - x.book <x.book",
+    ] {
+        let told = error(2, script(&folder, &format!("\"$1\" {text}")));
+        assert!(told.contains("are one file"), "{text}: {told}");
         assert_eq!(read(), before, "{text}");
     }
-    let piped = "\"$1\" net - x.book <x.book";
-    assert!(error(2, script(&folder, piped)).contains("are one file"));
-    assert_eq!(read(), before);
     // Two inputs may be one file, and an old output may be replaced.
     prints(&[
         "join",

@@ -2,28 +2,14 @@
 
 mod common;
 
-use common::{fails, packed, prints, run, sample, temporary};
+use common::{book, fails, packed, prints, run, sample, temporary, unpacked};
 use std::fs;
-
-const HEADER: &str = "class,group,kind,days,coupon,issue,long,short";
-
-/// A book of some lines of CSV text.
-fn book(name: &str, lines: &[&str]) -> String {
-    let (csv, book) = (
-        temporary(&format!("{name}.csv")),
-        temporary(&format!("{name}.book")),
-    );
-    fs::write(&csv, format!("{HEADER}\n{}\n", lines.join("\n"))).unwrap();
-    prints(&["pack", &csv, &book]);
-    book
-}
 
 /// The lines of a netted book, without the header.
 fn netted(book: &str) -> Vec<String> {
     let out = format!("{book}.netted");
     assert_eq!(prints(&["net", book, &out]), "");
-    let text = prints(&["unpack", &out, "-"]);
-    text.lines().skip(1).map(String::from).collect()
+    unpacked(&out)
 }
 
 /// The dealers' book, its report before and after.

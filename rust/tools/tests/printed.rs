@@ -14,7 +14,7 @@ use stored::{all, names, samples, Print, Stored};
 fn every_print_is_stored_and_nothing_else() {
     let wanted: BTreeSet<String> = all().iter().map(Stored::name).collect();
     assert_eq!(names(&format!("{}/expected", samples()), ".txt"), wanted);
-    assert_eq!(wanted.len(), 55);
+    assert_eq!(wanted.len(), 59);
     assert_eq!(
         names(&samples(), ".table"),
         BTreeSet::from(["steps".into()])
@@ -41,7 +41,7 @@ fn every_line_of_the_stored_texts_is_calculated_again() {
 }
 
 /// The totals and charges, worked by hand in document 01 and in samples/README.md.
-const BY_HAND: [(&str, &str); 46] = [
+const BY_HAND: [(&str, &str); 50] = [
     ("empty.report", "0.000"),
     ("swap.report", "4,793,392.500"),
     ("swap.currency-7", "4,580,112.500"),
@@ -88,6 +88,10 @@ const BY_HAND: [(&str, &str); 46] = [
     ("netting.currency-7", "1,145.000"),
     ("netted.report", "6,831.000"),
     ("netted.currency-7", "1,071.000"),
+    ("offsetting.report", "2,737.000"),
+    ("offsetting.currency-7", "817.000"),
+    ("offset.report", "2,732.000"),
+    ("offset.currency-7", "812.000"),
 ];
 
 /// Catches a stored charge that both calculations would have wrong.
@@ -176,13 +180,23 @@ fn e4_is_stored_as_it_is_joined() {
     assert_eq!(fs::read(&joined).unwrap(), expected);
 }
 
-/// Catches a netted sample that is not the netted book of the other.
+/// Holds what a command writes of one sample to another sample, its bytes and its text.
+fn writes(command: &str, from: &str, to: &str) {
+    let (book, out) = (
+        packed(from, command),
+        temporary(&format!("{to}-sample.book")),
+    );
+    prints(&[command, &book, &out]);
+    let expected = fs::read(packed(to, command)).unwrap();
+    assert_eq!(fs::read(&out).unwrap(), expected);
+    let text = fs::read_to_string(format!("{}/{to}.csv", samples())).unwrap();
+    assert_eq!(prints(&["unpack", &out, "-"]), text);
+}
+
+/// Catches a netted sample that is not the netted book of the other, and one without its
+/// offsetting legs that is not the other's.
 #[test]
-fn the_netted_sample_is_stored_as_it_is_netted() {
-    let (book, netted) = (packed("netting", "net"), temporary("netted-sample.book"));
-    prints(&["net", &book, &netted]);
-    let expected = fs::read(packed("netted", "net")).unwrap();
-    assert_eq!(fs::read(&netted).unwrap(), expected);
-    let text = fs::read_to_string(format!("{}/netted.csv", samples())).unwrap();
-    assert_eq!(prints(&["unpack", &netted, "-"]), text);
+fn written_samples_are_stored_as_they_are_written() {
+    writes("net", "netting", "netted");
+    writes("offset", "offsetting", "offset");
 }

@@ -29,7 +29,8 @@ fn a_short_benchmark_prints_every_line() {
     let tables: Vec<&str> = text.split("\n\n").skip(1).collect();
     let calls = [
         ("check", 9),
-        // Calls that take a table have a line more; the small bank and netting have their own lines.
+        // Calls that take a table have a line more; the small bank, netting and offsetting have their
+        // own lines.
         ("charge", 10),
         ("interest ladder", 10),
         ("commodity ladder", 9),
@@ -37,6 +38,7 @@ fn a_short_benchmark_prints_every_line() {
         ("join", 9),
         // The last of its lines is the time of a comparison.
         ("net", 9),
+        ("offset", 6),
     ];
     assert_eq!(tables.len(), calls.len());
     for (table, (call, lines)) in tables.iter().zip(calls) {
@@ -44,7 +46,7 @@ fn a_short_benchmark_prints_every_line() {
         assert!(table.contains("proved / Rust"), "{table}");
         assert_eq!(table.lines().count(), 1 + lines, "{table}");
     }
-    let last = text.lines().last().unwrap();
+    let last = tables[6].lines().last().unwrap();
     let beginning = "each of 7,998,000 comparisons, 4,000 rows of as many issues: proved ";
     assert!(last.starts_with(beginning), "{last}");
     assert!(last.contains(" ns, Rust 0."), "{last}");

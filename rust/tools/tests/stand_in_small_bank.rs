@@ -5,7 +5,7 @@ mod common;
 mod stand_in_library;
 
 use common::packed;
-use stand_in_library::{fails, run, told_of, BY};
+use stand_in_library::{fails, run, told_within, BY};
 
 /// How the charges of the sample are made up.
 const EXCHANGE: &str = "69,600.000 (8% of net short) + 9,600.000 (8% of gold)";
@@ -82,7 +82,7 @@ fn compare_fails_with_each_fault_of_a_small_bank() {
         "figure_kept",
     ];
     for fault in figures.into_iter().chain(refusals) {
-        let told = told_of("small bank", fault);
+        let told = told_within("500", "small bank", fault);
         assert!(told.starts_with(&format!("small bank{BY}entry ")), "{told}");
     }
 }

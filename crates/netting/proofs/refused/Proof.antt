@@ -1,6 +1,6 @@
 -- `netting::refused` meets its contract: it is the definition.
 use mathlib.Core.Path.{refl}
-use Rattle.netting.specs.Inner.Writing.{refusedNetting}
+use Rattle.netting.specs.Inner.Nets.{refusedNetting}
 use Rattle.netting.proofs.refused.Statement.{statement}
 use Rattle.netting.proofs.refused.Tie as tie
 

@@ -13,6 +13,7 @@ use Rattle.book.specs.declared.Refusal.{Refusal}
 use Rattle.book.specs.Refusals.{mostRows, mostAmount}
 use Rattle.issues.specs.Comparing.{comparisons}
 use Rattle.issues.specs.Agreeing.{differs}
+use Rattle.amounts.specs.Inner.Standing.{Tables}
 use Rattle.netting.specs.Netted.{differingRefusal, comparisonsOf}
 use Rattle.netting.specs.Inner.Places.{firstPlace, firstRowOf}
 
@@ -53,5 +54,6 @@ pub record Holds (first : ℕ) (rows : List Row) (longs shorts : List ℕ) : Typ
 -- 13, or all zero, the comparisons made and the sums of every class
 pub record GatheredBook (s : List ℕ) (r : Refusal) (compared : ℕ) (longs shorts : List ℕ) : Type 0 where
   pub is : r ≡ differingRefusal (legsOf s)
+  pub tables : r .number ≡ 0 → Tables longs shorts
   pub is-compared : r .number ≡ 0 → compared ≡ comparisonsOf s
   pub holds : r .number ≡ 0 → (class : ℕ) → 1 ≤ class → class ≤ 4 → Holds (rowsBefore (countsOf s) class) (ofClass class (legsOf s)) longs shorts

@@ -11,6 +11,9 @@ slice-aggregate-join c = simp length-take (omega arith)
 slice-aggregate-net : tie.Need-slice-aggregate-net
 slice-aggregate-net c = simp length-take (omega arith)
 
+slice-aggregate-offset : tie.Need-slice-aggregate-offset
+slice-aggregate-offset c = simp length-take (omega arith)
+
 pub write-into-spec : {M : Type 1} → statement M
 write-into-spec =
     tie.close
@@ -22,5 +25,9 @@ write-into-spec =
     (λ c. search needs)
     slice-aggregate-net
     (λ c κs. search needs)
+    (λ c. search needs)
+    slice-aggregate-offset
+    (λ c κs. search needs)
+    (λ c. search needs)
     (λ c. search needs)
     (λ c. search needs))

@@ -62,3 +62,14 @@ pub fn compare_net(book: &[u8], room: usize) -> u64 {
     assert_eq!(out, second_out, "{book:?}");
     result[0]
 }
+
+/// Compares offsetting into so many bytes and gives its refusal's number.
+pub fn compare_offset(book: &[u8], room: usize) -> u64 {
+    let (mut out, mut second_out) = (vec![0x55; room], vec![0x55; room]);
+    let mut result = [OLD; 4];
+    fast::offset(book, &mut out, &mut result);
+    let written = second::offset(book, &mut second_out);
+    assert_eq!(result, written.entries(), "{book:?}");
+    assert_eq!(out, second_out, "{book:?}");
+    result[0]
+}

@@ -1,6 +1,6 @@
 //! The books that are timed, and the tables that they are charged under.
 
-use super::issues;
+use super::{issues, legs};
 use books::generate::{row, Shape};
 use books::tables::Table;
 use books::{Book, Random, ROW_BYTES};
@@ -20,6 +20,7 @@ pub struct Case {
 pub enum Whose {
     SmallBank,
     Net,
+    Offset,
     /// All the others.
     Others,
 }
@@ -137,7 +138,7 @@ pub fn cases() -> Vec<Case> {
     let accepted = sorts.map(|(name, rows, classes)| accepted(name, *rows, classes));
     let others = [refused(&[0, 1, 2, 3]), under_own_table()];
     let all = accepted.chain(others).chain(small_banks());
-    all.chain(issues::cases()).collect()
+    all.chain(issues::cases()).chain(legs::cases()).collect()
 }
 
 /// The cases of small banks.
@@ -187,7 +188,7 @@ mod tests {
     /// would not show.
     #[test]
     fn interest_rows_are_notes_and_bonds() {
-        let charged = |case: &&Case| case.rows > 0 && case.whose != Whose::Net;
+        let charged = |case: &&Case| case.rows > 0 && !case.pairs[0].is_empty();
         for case in cases().iter().filter(charged) {
             let books = case.books.iter().chain(case.pairs.iter().flatten());
             let rows: Vec<u8> = books
@@ -253,7 +254,7 @@ mod tests {
 
     #[test]
     fn the_numbers_of_books_are_powers_of_two() {
-        for case in cases().iter().filter(|case| case.whose != Whose::Net) {
+        for case in cases().iter().filter(|case| !case.pairs[0].is_empty()) {
             let lists = [&case.books, &case.pairs[0], &case.pairs[1]];
             assert!(lists.iter().all(|list| list.len().is_power_of_two()));
         }

@@ -44,12 +44,12 @@ where
 
 /// The answers of a call on a book that writes another, with an output as long as the book that
 /// holds what it held before.
-pub fn expected_of_outputs<F>(case: &Case, call: F) -> Rc<[Answer]>
+pub fn expected_of_outputs<F, const N: usize>(case: &Case, call: F) -> Rc<[Answer]>
 where
-    F: Fn(&[u8], &mut [u8], &mut [u64; 5]),
+    F: Fn(&[u8], &mut [u8], &mut [u64; N]),
 {
     let answer = |book: &Vec<u8>| {
-        let mut entries = [0; 5];
+        let mut entries = [0; N];
         let mut output = vec![OLD_BYTE; book.len()];
         call(book, &mut output, &mut entries);
         Answer {

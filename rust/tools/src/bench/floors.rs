@@ -16,10 +16,11 @@ pub fn copy(a: &[u8], b: &[u8], out: &mut [u8], result: &mut [u64; 4]) {
     *result = [0, 0, 0, out.len() as u64];
 }
 
-/// A book's bytes.
-pub fn copy_book(book: &[u8], out: &mut [u8], result: &mut [u64; 5]) {
+/// A book's bytes, and its length in the fourth entry.
+pub fn copy_book<const N: usize>(book: &[u8], out: &mut [u8], result: &mut [u64; N]) {
     out.copy_from_slice(book);
-    *result = [0, 0, 0, out.len() as u64, 0];
+    result.fill(0);
+    result[3] = out.len() as u64;
 }
 
 /// The sum of words, byte by byte.
@@ -39,7 +40,9 @@ pub fn copy_bytes(a: &[u8], b: &[u8], out: &mut [u8], result: &mut [u64; 4]) {
 }
 
 /// The copy of a book, byte by byte.
-pub fn copy_book_bytes(book: &[u8], out: &mut [u8], result: &mut [u64; 5]) {
+pub fn copy_book_bytes<const N: usize>(book: &[u8], out: &mut [u8], result: &mut [u64; N]) {
     let count = out.iter_mut().zip(book).map(|(to, from)| *to = *from);
-    *result = [0, 0, 0, count.count() as u64, 0];
+    let entry = |at: usize, length: u64| if at == 3 { length } else { 0 };
+    let length = count.count() as u64;
+    *result = std::array::from_fn(|at| entry(at, length));
 }

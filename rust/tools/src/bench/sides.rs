@@ -34,7 +34,7 @@ impl Call {
 }
 
 /// The calls, in the order of the tables.
-pub const CALLS: [Call; 7] = [
+pub const CALLS: [Call; 8] = [
     Call {
         name: "check",
         takes_table: false,
@@ -76,6 +76,12 @@ pub const CALLS: [Call; 7] = [
         takes_table: false,
         whose: Whose::Net,
         sides: net,
+    },
+    Call {
+        name: "offset",
+        takes_table: false,
+        whose: Whose::Offset,
+        sides: offset,
     },
 ];
 
@@ -167,12 +173,29 @@ fn join(case: &Case) -> Sides<'_> {
 }
 
 fn net(case: &Case) -> Sides<'_> {
+    let second = |book: &[u8], out: &mut [u8], result: &mut [u64; 5]| Second.net(book, out, result);
+    written(case, second, raw::net, fast::net)
+}
+
+fn offset(case: &Case) -> Sides<'_> {
+    let second =
+        |book: &[u8], out: &mut [u8], result: &mut [u64; 4]| Second.offset(book, out, result);
+    written(case, second, raw::offset, fast::offset)
+}
+
+/// The sides of a call on a book that writes another.
+fn written<'a, const N: usize>(
+    case: &'a Case,
+    second: impl Fn(&[u8], &mut [u8], &mut [u64; N]),
+    proved: impl Fn(&[u8], &mut [u8], &mut [u64; N]) + 'a,
+    plain: impl Fn(&[u8], &mut [u8], &mut [u64; N]) + 'a,
+) -> Sides<'a> {
     let books = &case.books;
-    let expected = expected_of_outputs(case, |book, out, result| Second.net(book, out, result));
-    let copied = expected_of_outputs(case, copy_book_bytes);
+    let expected = expected_of_outputs(case, second);
+    let copied = expected_of_outputs(case, copy_book_bytes::<N>);
     compared(vec![
-        ("proved", of_output(books, raw::net), expected.clone()),
-        ("Rust", of_output(books, fast::net), expected),
-        ("copy", of_output(books, copy_book), copied),
+        ("proved", of_output(books, proved), expected.clone()),
+        ("Rust", of_output(books, plain), expected),
+        ("copy", of_output(books, copy_book::<N>), copied),
     ])
 }

@@ -148,6 +148,7 @@ fn each_name_times_its_own_call() {
         "small_bank",
         "join",
         "net",
+        "offset",
     ];
     let cases = cases();
     for (call, function) in CALLS.iter().zip(functions) {
@@ -155,13 +156,14 @@ fn each_name_times_its_own_call() {
         for side in (call.sides)(first(call, &cases)).unwrap() {
             let path = match side.name {
                 "proved" => format!("market_risk::raw::{function}"),
-                "Rust" if ["join", "net", "small_bank"].contains(&function) => {
+                "Rust" if ["join", "net", "offset", "small_bank"].contains(&function) => {
                     format!("fast::{function}::{function}")
                 }
                 "Rust" => format!("fast::{function}"),
                 "C" => format!("fast::expert::{function}"),
                 "words" => "market_risk::bench::floors::sum_words".to_string(),
-                _ if function == "net" => "market_risk::bench::floors::copy_book".to_string(),
+                _ if function == "net" => "market_risk::bench::floors::copy_book<5>".to_string(),
+                _ if function == "offset" => "market_risk::bench::floors::copy_book<4>".to_string(),
                 _ => "market_risk::bench::floors::copy".to_string(),
             };
             assert_eq!(side.path(), path);
@@ -176,7 +178,7 @@ fn the_proved_library_comes_first() {
     for call in &CALLS {
         let sides = (call.sides)(first(call, &cases)).unwrap();
         let names: Vec<&str> = sides.iter().map(|side| side.name).collect();
-        let writes = ["join", "net"].contains(&call.name);
+        let writes = ["join", "net", "offset"].contains(&call.name);
         let floor = if writes { "copy" } else { "words" };
         let named = names.iter().copied().filter(|name| *name != "C");
         assert!(named.eq(["proved", "Rust", floor]), "{names:?}");
@@ -206,18 +208,34 @@ fn the_small_bank_has_lines_of_its_own() {
         let table = Table::new(call, &cases).unwrap();
         let books: Vec<&str> = table.lines.iter().map(|line| line.book).collect();
         let own = books.iter().filter(|book| **book == "fx and commodity");
-        let (small_bank, net) = (call.name == "small bank", call.name == "net");
+        let small_bank = call.name == "small bank";
+        let alone = ["net", "offset"].contains(&call.name);
         assert_eq!(own.count(), if small_bank { 3 } else { 0 }, "{books:?}");
-        let others = !small_bank && !net;
+        let others = !small_bank && !alone;
         assert_eq!(books.contains(&"all classes"), others, "{books:?}");
-        assert_eq!(books.contains(&"refused, last row"), !net, "{books:?}");
+        assert_eq!(books.contains(&"refused, last row"), !alone, "{books:?}");
+    }
+}
+
+/// Holds the lines of a call to those that it alone has.
+fn has_lines(name: &str, lines: &[(&str, usize)]) {
+    let cases = cases();
+    for call in &CALLS {
+        let table = Table::new(call, &cases).unwrap();
+        let own: Vec<(&str, usize)> = table
+            .lines
+            .iter()
+            .map(|line| (line.book, line.rows))
+            .collect();
+        assert_eq!(own == lines, call.name == name, "{}", call.name);
+        let shared = own.iter().any(|line| line.1 > 0 && lines.contains(line));
+        assert_eq!(shared, call.name == name, "{}", call.name);
     }
 }
 
 /// Catches lines of netting that are missing, or that stand in another call's table.
 #[test]
 fn netting_has_lines_of_its_own() {
-    let cases = cases();
     let lines = [
         ("no rows", 0),
         ("1 issue", 40),
@@ -228,15 +246,19 @@ fn netting_has_lines_of_its_own() {
         ("4,000 issues", 4_000),
         ("60 issues, refused", 4_000),
     ];
-    for call in &CALLS {
-        let table = Table::new(call, &cases).unwrap();
-        let own: Vec<(&str, usize)> = table
-            .lines
-            .iter()
-            .map(|line| (line.book, line.rows))
-            .collect();
-        assert_eq!(own == lines, call.name == "net", "{}", call.name);
-        let issues = own.iter().any(|(book, _)| book.contains("issue"));
-        assert_eq!(issues, call.name == "net", "{}", call.name);
-    }
+    has_lines("net", &lines);
+}
+
+/// The same of offsetting.
+#[test]
+fn offsetting_has_lines_of_its_own() {
+    let lines = [
+        ("no rows", 0),
+        ("near pairs", 40),
+        ("near pairs", 4_000),
+        ("amounts apart", 4_000),
+        ("one side", 4_000),
+        ("terms apart", 4_000),
+    ];
+    has_lines("offset", &lines);
 }

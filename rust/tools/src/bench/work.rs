@@ -168,20 +168,20 @@ where
 }
 
 /// A call on a book that writes another.
-struct OfOutput<'a, F> {
+struct OfOutput<'a, F, const N: usize> {
     books: &'a [Vec<u8>],
     call: F,
     output: Vec<u8>,
-    entries: [u64; 5],
+    entries: [u64; N],
 }
 
-impl<F: Fn(&[u8], &mut [u8], &mut [u64; 5])> Work for OfOutput<'_, F> {
+impl<F: Fn(&[u8], &mut [u8], &mut [u64; N]), const N: usize> Work for OfOutput<'_, F, N> {
     fn run(&mut self, at: usize) {
         (self.call)(pick(self.books, at), &mut self.output, &mut self.entries);
         black_box((&mut self.entries, &mut self.output));
     }
     fn forget(&mut self) {
-        self.entries = [OLD_ENTRY; 5];
+        self.entries = [OLD_ENTRY; N];
         self.output.fill(OLD_BYTE);
     }
     fn answer(&self) -> Answer {
@@ -196,14 +196,14 @@ impl<F: Fn(&[u8], &mut [u8], &mut [u64; 5])> Work for OfOutput<'_, F> {
 }
 
 /// A call on a book and an output that is as long.
-pub fn of_output<'a, F>(books: &'a [Vec<u8>], call: F) -> Box<dyn Work + 'a>
+pub fn of_output<'a, F, const N: usize>(books: &'a [Vec<u8>], call: F) -> Box<dyn Work + 'a>
 where
-    F: Fn(&[u8], &mut [u8], &mut [u64; 5]) + 'a,
+    F: Fn(&[u8], &mut [u8], &mut [u64; N]) + 'a,
 {
     Box::new(OfOutput {
         books,
         call,
         output: vec![OLD_BYTE; books[0].len()],
-        entries: [OLD_ENTRY; 5],
+        entries: [OLD_ENTRY; N],
     })
 }

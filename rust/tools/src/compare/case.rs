@@ -1,9 +1,10 @@
-//! One random case: two books, a table, a group and the lengths of two outputs.
+//! One random case: two books, a table, a group and the lengths of three outputs.
 
 use super::e4::{add_e4, add_e4_issue};
 use books::damage::{damage, damage_note};
 use books::generate::{book, interest_book, interest_rows, ladder_book, Shape};
 use books::issues::{many, spoil, Issues};
+use books::legs::Legs;
 use books::small::{slip_in, small_book};
 use books::tables::random::{accepted, broken, nudged, of_wrong_length, WAYS};
 use books::{Random, ROW_BYTES};
@@ -21,6 +22,8 @@ pub struct Case {
     pub room: usize,
     /// The length of the output of netting the first book.
     pub net_room: usize,
+    /// The length of the output of offsetting it.
+    pub offset_room: usize,
     /// The seed of the order in which the sample of demand 3 puts rows.
     pub order: u64,
 }
@@ -65,13 +68,13 @@ fn room(random: &mut Random, written: usize) -> usize {
     }
 }
 
-/// A length of the output of netting: every third time none or hardly any where a book cannot be
-/// netted, which is told all the same.
-fn net_room(random: &mut Random, book: &[u8]) -> usize {
-    match second::netted(book) {
+/// A length of the output of netting or offsetting a book: every third time none or hardly any where
+/// it is refused, which is told all the same.
+fn room_of(random: &mut Random, book: &[u8], written: Result<Vec<u8>, second::Refusal>) -> usize {
+    match written {
         Err(_) if random.once_in(3) => random.pick(&[0, 7, 8]),
         Err(_) => room(random, book.len()),
-        Ok(netted) => room(random, netted.len()),
+        Ok(written) => room(random, written.len()),
     }
 }
 
@@ -186,6 +189,20 @@ fn books_of_many_issues(random: &mut Random) -> [Vec<u8>; 2] {
     })
 }
 
+/// Two books of swap legs that fit each other, or nearly do; every sixth is damaged.
+fn books_of_legs(random: &mut Random) -> [Vec<u8>; 2] {
+    let legs = Legs::new(random);
+    let most = if random.once_in(40) { 400 } else { 14 };
+    [0; 2].map(|_| {
+        let rows = random.below(most) as usize;
+        let mut bytes = legs.book(random, rows).encode().expect("few rows");
+        if random.once_in(6) {
+            damage(random, &mut bytes);
+        }
+        bytes
+    })
+}
+
 /// A table: mostly an accepted one, often document 01's; else with one condition broken by one,
 /// with one byte changed, or of a wrong length.
 fn table(random: &mut Random) -> Vec<u8> {
@@ -203,7 +220,7 @@ fn table(random: &mut Random) -> Vec<u8> {
 
 impl Case {
     /// The case with this number of a seed. Every fourth is about issues, every hundredth about
-    /// very many of them.
+    /// very many of them, and every eighth about swap legs.
     pub fn new(seed: u64, number: u64) -> Case {
         // The table has a stream of its own.
         let table = table(&mut Random::of_case(!seed, number));
@@ -211,6 +228,7 @@ impl Case {
         let [a, b] = match random.below(18) {
             _ if number % 100 == 99 => books_of_many_issues(&mut random),
             _ if number % 4 == 3 => books_of_issues(&mut random, &table),
+            _ if number % 8 == 5 => books_of_legs(&mut random),
             0 | 1 => books_of_currencies(&mut random, &table),
             2 | 3 => books_of_notes(&mut random),
             4 | 5 => books_of_one_group(&mut random),
@@ -221,7 +239,8 @@ impl Case {
             group: group(&mut random, &a),
             room: room(&mut random, (a.len() + b.len()).saturating_sub(8)),
             order: random.draw(),
-            net_room: net_room(&mut random, &a),
+            net_room: room_of(&mut random, &a, second::netted(&a)),
+            offset_room: room_of(&mut random, &a, second::offset_book(&a)),
             table,
             a,
             b,

@@ -1,4 +1,4 @@
-//! All eight calls on one case, entry by entry and byte by byte.
+//! All nine calls on one case, entry by entry and byte by byte.
 
 use super::case::Case;
 use crate::calls::Calls;
@@ -87,6 +87,14 @@ fn net(calculations: [&dyn Calls; 2], case: &Case) -> Option<String> {
     })
 }
 
+/// Offsets the first book with both calculations.
+fn offset(calculations: [&dyn Calls; 2], case: &Case) -> Option<String> {
+    let room = case.offset_room;
+    writing("offset", calculations, room, |calls, out, result| {
+        calls.offset(&case.a, out, result);
+    })
+}
+
 /// Compares document 01's table by both calculations.
 fn table(library: &dyn Calls, other: &dyn Calls) -> Option<String> {
     let (mut ours, mut theirs) = ([0x5a; 36], [0xa5; 36]);
@@ -133,5 +141,6 @@ pub fn difference(library: &dyn Calls, other: &dyn Calls, case: &Case) -> Option
     of_book(both, case)
         .or_else(|| join(both, case))
         .or_else(|| net(both, case))
+        .or_else(|| offset(both, case))
         .or_else(|| table(library, other))
 }

@@ -4,6 +4,7 @@ use super::comparisons::Comparisons;
 use super::floating::Floating;
 use super::net_joins::NetJoins;
 use super::nets::Nets;
+use super::offsets::Offsets;
 use super::premises::Premises;
 use super::small_banks::SmallBanks;
 use super::tables::Tables;
@@ -76,6 +77,16 @@ const LEAST: Tally = Tally {
         less: 55,
         dearer: 67,
         vanished: 11,
+    },
+    offsets: Offsets {
+        fits: [30, 44, 21, 130, 225],
+        misses: [26, 33, 16, 110, 350, 180, 76, 280, 115],
+        chains: [150, 134, 132, 179],
+        refused: [
+            0, 31, 77, 360, 185, 235, 97, 130, 185, 84, 0, 0, 1_600, 0, 0, 215,
+        ],
+        rooms: [1_900, 1_450, 620],
+        costs: [275, 13],
     },
 };
 
@@ -174,6 +185,7 @@ mod tests {
         every_table_has_a_minimum();
         every_small_bank_has_a_minimum();
         every_net_has_a_minimum();
+        every_offset_has_a_minimum();
         for number in (1..=9).chain([15]) {
             let lacking = one_short(|tally| &mut tally.refused[number]);
             assert!(lacking[0].starts_with(&format!("books refused {number}: ")));
@@ -285,13 +297,52 @@ mod tests {
         alone(&|tally| &mut tally.net_joins.vanished, "netted away");
     }
 
+    /// The same of offsetting.
+    fn every_offset_has_a_minimum() {
+        let alone = |of: &dyn Fn(&mut Offsets) -> &mut u64, name: &str| {
+            let lacking = one_short(|tally| of(&mut tally.offsets));
+            assert_eq!(lacking.len(), 1, "{name}");
+            assert!(lacking[0].starts_with(name), "{lacking:?}");
+        };
+        for at in 0..LEAST.offsets.fits.len() {
+            alone(
+                &|offsets| &mut offsets.fits[at],
+                "books with legs that fit ",
+            );
+        }
+        for at in 0..LEAST.offsets.misses.len() {
+            alone(
+                &|offsets| &mut offsets.misses[at],
+                "books with rows that miss by ",
+            );
+        }
+        for at in 0..LEAST.offsets.chains.len() {
+            alone(&|offsets| &mut offsets.chains[at], "books offset with ");
+        }
+        for at in 0..LEAST.offsets.rooms.len() {
+            alone(&|offsets| &mut offsets.rooms[at], "outputs of offsetting ");
+        }
+        alone(
+            &|offsets| &mut offsets.costs[0],
+            "books cheaper when offset: ",
+        );
+        alone(
+            &|offsets| &mut offsets.costs[1],
+            "books dearer when offset: ",
+        );
+        for number in (1..=9).chain([12, 15]) {
+            let name = format!("offsets refused {number}: ");
+            alone(&|offsets| &mut offsets.refused[number], &name);
+        }
+    }
+
     /// Catches minimums that do not follow the count of the run.
     #[test]
     fn minimums_follow_the_count() {
         let nothing = Tally::default();
         assert_eq!(
             nothing.lacking(20_000).len(),
-            12 + 9 + 18 + 10 + 12 + 21 + 47
+            12 + 9 + 18 + 10 + 12 + 21 + 47 + 34
         );
         assert!(LEAST.lacking(20_100).len() > 10);
         let half = nothing.lacking(10_000);
@@ -299,7 +350,7 @@ mod tests {
         // Few cases may miss the rarest, and very few may miss anything.
         assert_eq!(
             nothing.lacking(9_999).len(),
-            12 + 9 + 18 + 10 + 11 + 20 + 42
+            12 + 9 + 18 + 10 + 11 + 20 + 42 + 32
         );
         assert_eq!(nothing.lacking(41), [""; 0]);
     }

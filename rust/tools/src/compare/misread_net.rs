@@ -58,6 +58,9 @@ impl Calls for Misread {
             result[4] = count.of(book);
         }
     }
+    fn offset(&self, book: &[u8], out: &mut [u8], result: &mut [u64; 4]) {
+        Second.offset(book, out, result);
+    }
     fn table(&self, out: &mut [u8; 36]) {
         Second.table(out);
     }

@@ -21,6 +21,8 @@ mod misread;
 #[cfg(test)]
 mod misread_net;
 #[cfg(test)]
+mod misread_offset;
+#[cfg(test)]
 mod misread_small;
 #[cfg(test)]
 mod misread_tables;
@@ -30,6 +32,11 @@ mod net_laws;
 mod net_readings;
 mod net_sorts;
 mod nets;
+mod offset_laws;
+#[cfg(test)]
+mod offset_readings;
+mod offset_sorts;
+mod offsets;
 mod premises;
 mod run;
 mod shown;
@@ -50,6 +57,8 @@ mod wrong_ladders;
 #[cfg(test)]
 mod wrong_net;
 #[cfg(test)]
+mod wrong_offset;
+#[cfg(test)]
 mod wrong_small;
 #[cfg(test)]
 mod wrong_tables;
@@ -64,7 +73,7 @@ pub const COMMAND: Command = Command {
     help: "market-risk compare [--seed S] [--count N] [--first K]
 
 Makes N pairs of random and damaged books from seed S and holds the proved library to
-the second calculation: all eight calls, every entry of every result and every byte of
+the second calculation: all nine calls, every entry of every result and every byte of
 every output. Each pair has one table: document 01's, another that is accepted, or one that
 is refused. Demand 3 is sampled too: a reordered, mirrored, or reordered and mirrored book
 has the same report; a joined book takes as many rows as its two parts and, with at most
@@ -77,8 +86,10 @@ foreign exchange and commodities alone cost the same reordered and mirrored, and
 most what they cost apart, in each figure of the small bank and whatever they hold. A netted
 book is accepted, stays as it is when it is netted again, and costs at most what the book costs;
 and with at most two zones used in each currency before netting, a netted join costs at most its
-two netted books together. Netting takes at most n(n - 1)/2 comparisons of n rows. In every
-fourth pair rows share issue numbers.
+two netted books together. Netting takes at most n(n - 1)/2 comparisons of n rows. A book that was
+offset is accepted, has all rows that are no swap legs in their order, no two rows that fit, and
+stays as it is when it is offset again. In every fourth pair rows share issue numbers, and every
+eighth is of swap legs.
 
 On a difference it prints the smallest books that it can find, in hex and as CSV, with the
 table next to document 01's, and stops with exit status 1. It also fails when the pairs
@@ -94,7 +105,9 @@ before bad rows and after 2 and 3, and netted books, of each sort of issue, into
 just long enough, longer and one byte short, refused with each number, with 13 for each field,
 with 13 and 14 in each order, cheaper netted, joined and netted under the premise and without
 it, with as many comparisons as there can be, with none, with others in another order of the
-rows, must come up in proportion to N.
+rows, and books that were offset, with legs that fit at each limit, with rows that miss by one
+thing alone, in chains, for less and for more, into outputs of each length and refused with each
+number, must come up in proportion to N.
 
   --seed S    the seed, 1 if not given
   --count N   how many pairs, 20000 if not given

@@ -28,7 +28,7 @@ fn numbers() -> impl Iterator<Item = usize> {
 }
 
 /// Counts what is so.
-fn add<const N: usize>(counts: &mut [u64; N], seen: [bool; N]) {
+pub fn add<const N: usize>(counts: &mut [u64; N], seen: [bool; N]) {
     let counts = counts.iter_mut().zip(seen);
     counts.for_each(|(count, seen)| *count += u64::from(seen));
 }
@@ -92,7 +92,7 @@ impl Nets {
 }
 
 /// Names beside their counts.
-fn listed(names: &[&str], counts: &[u64]) -> String {
+pub fn listed(names: &[&str], counts: &[u64]) -> String {
     let pairs = names.iter().zip(counts);
     let pairs = pairs.map(|(name, count)| format!("{name} {count}"));
     pairs.collect::<Vec<_>>().join(", ")

@@ -29,7 +29,8 @@ fn show_table(bytes: &[u8]) -> String {
 
 impl fmt::Display for Case {
     fn fmt(&self, out: &mut fmt::Formatter) -> fmt::Result {
-        let (group, room, net_room) = (self.group, self.room, self.net_room);
+        let (group, room) = (self.group, self.room);
+        let (net, offset) = (self.net_room, self.offset_room);
         let (a, b, table) = (
             show("A", &self.a),
             show("B", &self.b),
@@ -37,7 +38,8 @@ impl fmt::Display for Case {
         );
         write!(
             out,
-            "group {group}, outputs of {room} bytes to join and {net_room} to net\n{table}{a}{b}"
+            "group {group}, outputs of {room} bytes to join, {net} to net and {offset} to offset\n\
+             {table}{a}{b}"
         )
     }
 }

@@ -7,58 +7,60 @@ use super::table_cuts::nearer;
 /// How many cuts are tried at most: full books that cannot be cut have very many.
 const MOST_TRIES: usize = 10_000;
 
-/// The output of netting for a first book cut to another: it keeps its distance from what is
-/// written, if anything is.
-fn net_room(case: &Case, cut: &[u8]) -> usize {
-    match (second::netted(&case.a), second::netted(cut)) {
-        (Ok(whole), Ok(cut)) => (case.net_room + cut.len()).saturating_sub(whole.len()),
-        _ => case.net_room,
+/// What is written of a book, or why nothing is.
+type Written = Result<Vec<u8>, second::Refusal>;
+
+/// An output for a first book cut to another: it keeps its distance from what is written, if
+/// anything is.
+fn room(room: usize, whole: &Written, cut: Written) -> usize {
+    match (whole, cut) {
+        (Ok(whole), Ok(cut)) => (room + cut.len()).saturating_sub(whole.len()),
+        _ => room,
     }
+}
+
+/// The case with a plainer group, with an output of no bytes, or with all rows in group 0.
+fn plainer(case: &Case) -> impl Iterator<Item = Case> + '_ {
+    let with = |change: fn(&mut Case)| {
+        let mut plain = case.clone();
+        change(&mut plain);
+        plain
+    };
+    let plain = [
+        with(|case| case.group = 0),
+        with(|case| case.room = 0),
+        with(|case| case.net_room = 0),
+        with(|case| case.offset_room = 0),
+        // A ladder's own rows leave their group with it.
+        with(|case| {
+            case.group = 0;
+            (case.a, case.b) = (in_one_group(&case.a), in_one_group(&case.b));
+        }),
+    ];
+    plain.into_iter().filter(move |plain| plain != case)
 }
 
 /// The smaller cases next to a case. The outputs keep their distance from what is written.
 fn smaller(case: &Case) -> impl Iterator<Item = Case> + '_ {
-    let with = |a: Vec<u8>, b: Vec<u8>| {
-        let less = (case.a.len() + case.b.len()).saturating_sub(a.len() + b.len());
-        let room = case.room.saturating_sub(less);
-        Case {
-            net_room: net_room(case, &a),
-            a,
-            b,
-            room,
-            ..case.clone()
-        }
-    };
-    let plain = |group: usize, room: usize| Case {
-        group,
-        room,
+    let less = |before: &[u8], after: &[u8]| before.len().saturating_sub(after.len());
+    let of_b = cuts(&case.b).map(move |b| Case {
+        room: case.room.saturating_sub(less(&case.b, &b)),
+        b,
         ..case.clone()
-    };
-    let of_b = cuts(&case.b).map(move |b| with(case.a.clone(), b));
-    let of_a = cuts(&case.a).map(move |a| with(a, case.b.clone()));
-    // A ladder's own rows leave their group with it.
-    let one_group = Case {
-        a: in_one_group(&case.a),
-        b: in_one_group(&case.b),
-        ..plain(0, case.room)
-    };
-    let no_room = Case {
-        net_room: 0,
+    });
+    let (netted, offset) = (second::netted(&case.a), second::offset_book(&case.a));
+    let of_a = cuts(&case.a).map(move |a| Case {
+        room: case.room.saturating_sub(less(&case.a, &a)),
+        net_room: room(case.net_room, &netted, second::netted(&a)),
+        offset_room: room(case.offset_room, &offset, second::offset_book(&a)),
+        a,
         ..case.clone()
-    };
-    let numbers = [
-        plain(0, case.room),
-        plain(case.group, 0),
-        no_room,
-        one_group,
-    ]
-    .into_iter();
-    let numbers = numbers.filter(move |plain| plain != case);
+    });
     let of_table = nearer(&case.table).map(|table| Case {
         table,
         ..case.clone()
     });
-    numbers.chain(of_table).chain(of_b).chain(of_a)
+    plainer(case).chain(of_table).chain(of_b).chain(of_a)
 }
 
 /// Cuts a failing case for as long as a cut still fails.
@@ -103,6 +105,7 @@ mod tests {
             group: 9,
             room: 500,
             net_room: 500,
+            offset_room: 500,
             order: 1,
         }
     }
@@ -120,7 +123,8 @@ mod tests {
         assert_eq!(book.rows(), 2);
         assert_eq!(book.classes[3], [plain; 2]);
         let left = (smallest.b.len(), smallest.group, smallest.room);
-        assert_eq!((left, smallest.net_room), ((0, 0, 0), 0));
+        let outputs = [smallest.net_room, smallest.offset_room];
+        assert_eq!((left, outputs), ((0, 0, 0), [0; 2]));
         assert_eq!(smallest.table, second::table());
     }
 

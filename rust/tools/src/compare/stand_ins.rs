@@ -5,9 +5,10 @@ use super::premises::{at_most_two, zones};
 use super::run::{Run, DEFAULT_COUNT};
 use crate::calls::{Calls, Proved, Second};
 use crate::cli::{Args, Failure};
+use books::legs::LEG;
 use books::Book;
 
-/// The eight calls.
+/// The nine calls.
 #[derive(Clone, Copy, Debug, PartialEq)]
 enum Call {
     Check,
@@ -17,10 +18,11 @@ enum Call {
     SmallBank,
     Join,
     Net,
+    Offset,
     Table,
 }
 
-const CALLS: [Call; 8] = [
+const CALLS: [Call; 9] = [
     Call::Check,
     Call::Charge,
     Call::InterestLadder,
@@ -28,6 +30,7 @@ const CALLS: [Call; 8] = [
     Call::SmallBank,
     Call::Join,
     Call::Net,
+    Call::Offset,
     Call::Table,
 ];
 
@@ -43,6 +46,21 @@ impl StandIn<'_> {
         match (self.without.contains(&call), self.zeros) {
             (false, _) => real(out),
             (true, true) => out.fill(0),
+            (true, false) => (),
+        }
+    }
+
+    /// The same of a call that writes a book: a stand-in leaves the output as it is.
+    fn write<const N: usize>(
+        &self,
+        call: Call,
+        out: &mut [u8],
+        result: &mut [u64; N],
+        real: impl Fn(&mut [u8], &mut [u64; N]),
+    ) {
+        match (self.without.contains(&call), self.zeros) {
+            (false, _) => real(out, result),
+            (true, true) => result.fill(0),
             (true, false) => (),
         }
     }
@@ -70,18 +88,19 @@ impl Calls for StandIn<'_> {
         self.answer(Call::SmallBank, out, |out| Second.small_bank(book, out));
     }
     fn join(&self, a: &[u8], b: &[u8], out: &mut [u8], result: &mut [u64; 4]) {
-        match (self.without.contains(&Call::Join), self.zeros) {
-            (false, _) => Second.join(a, b, out, result),
-            (true, true) => result.fill(0),
-            (true, false) => (),
-        }
+        self.write(Call::Join, out, result, |out, result| {
+            Second.join(a, b, out, result);
+        });
     }
     fn net(&self, book: &[u8], out: &mut [u8], result: &mut [u64; 5]) {
-        match (self.without.contains(&Call::Net), self.zeros) {
-            (false, _) => Second.net(book, out, result),
-            (true, true) => result.fill(0),
-            (true, false) => (),
-        }
+        self.write(Call::Net, out, result, |out, result| {
+            Second.net(book, out, result);
+        });
+    }
+    fn offset(&self, book: &[u8], out: &mut [u8], result: &mut [u64; 4]) {
+        self.write(Call::Offset, out, result, |out, result| {
+            Second.offset(book, out, result);
+        });
     }
     fn table(&self, out: &mut [u8; 36]) {
         match (self.without.contains(&Call::Table), self.zeros) {
@@ -158,6 +177,7 @@ fn a_run_that_has_seen_too_little_fails() {
         group: 0,
         room: 8,
         net_room: 8,
+        offset_room: 8,
         order: 0,
     };
     let message = failure(&empty);
@@ -175,6 +195,8 @@ fn a_run_that_has_seen_too_little_fails() {
     assert!(message.contains("\nnets refused 13: 0 where at least 250 are wanted\n"));
     assert!(message.contains("\nnetted joins under the zone premise: 0 where"));
     assert!(message.contains("\ncomparisons as many as there can be: 0 where"));
+    assert!(message.contains("\nbooks with legs that fit 7 days apart: 0 where"));
+    assert!(message.contains("\nbooks with rows that miss by the 31st day: 0 where"));
     assert!(message.contains("\ntables refused 18: 0 where"));
     assert!(message.contains("\ntables refused for 1-3 above 100 alone: 0 where"));
     assert!(!message.contains("books accepted: "), "{message}");
@@ -254,6 +276,22 @@ fn without_issues(seed: u64, number: u64) -> Case {
     }
 }
 
+/// A case of a seed with its swap legs made qualifying bonds.
+fn without_legs(seed: u64, number: u64) -> Case {
+    let bonds = |bytes: Vec<u8>| {
+        let mut book = Book::decode(&bytes)?;
+        let legs = book.classes[0].iter_mut().filter(|row| row.kind == LEG);
+        legs.for_each(|row| row.kind = 2);
+        book.encode()
+    };
+    let case = Case::new(seed, number);
+    Case {
+        a: bonds(case.a.clone()).unwrap_or(case.a),
+        b: bonds(case.b.clone()).unwrap_or(case.b),
+        ..case
+    }
+}
+
 /// What a run of 4,000 cases of a kind lacks.
 fn lacking(cases: fn(u64, u64) -> Case) -> Vec<String> {
     let none = StandIn {
@@ -295,11 +333,11 @@ fn a_run_without_notes_fails() {
         |line: &&String| line.contains("floating rates") || line.contains("refused 15");
     assert_eq!(
         lacking.iter().filter(about_notes).count(),
-        10,
+        11,
         "{lacking:?}"
     );
     assert!(lacking.iter().all(|line| line.contains(": 0 where")));
-    assert_eq!(lacking.len(), 10, "{lacking:?}");
+    assert_eq!(lacking.len(), 11, "{lacking:?}");
 }
 
 /// Catches a run in which every first book has interest or equity rows: no figure of a small bank
@@ -335,4 +373,19 @@ fn a_run_without_issues_fails() {
     let about = |line: &&String| line.contains("net") || line.starts_with("comparisons ");
     assert_eq!(lacking.iter().filter(about).count(), 15, "{lacking:?}");
     assert_eq!(lacking.len(), 15, "{lacking:?}");
+}
+
+/// Catches a run without swap legs: nothing was offset, no two rows lay at a limit or past it, and
+/// no order mattered.
+#[test]
+fn a_run_without_legs_fails() {
+    let lacking = lacking(without_legs);
+    assert!(lacking.iter().all(|line| line.contains(": 0 where")));
+    let about = |line: &&String| {
+        ["legs", "miss", "offset"]
+            .iter()
+            .any(|word| line.contains(word))
+    };
+    assert_eq!(lacking.iter().filter(about).count(), 11, "{lacking:?}");
+    assert_eq!(lacking.len(), 11, "{lacking:?}");
 }

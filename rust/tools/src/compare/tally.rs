@@ -5,6 +5,7 @@ use super::comparisons::Comparisons;
 use super::floating::Floating;
 use super::net_joins::NetJoins;
 use super::nets::Nets;
+use super::offsets::Offsets;
 use super::premises::Premises;
 use super::small_banks::SmallBanks;
 use super::tables::Tables;
@@ -37,6 +38,7 @@ pub struct Tally {
     pub comparisons: Comparisons,
     /// Of books and joins under an accepted table.
     pub net_joins: NetJoins,
+    pub offsets: Offsets,
 }
 
 impl Tally {
@@ -53,6 +55,7 @@ impl Tally {
         self.small_banks.count(&case.a, &refusal);
         self.nets.count(case);
         self.comparisons.count(case);
+        self.offsets.count(case);
         self.ladder_refused += u64::from(case.group > 31);
         self.tables.count(case);
         let charged = second::read_table(&case.table).is_ok();
@@ -109,6 +112,7 @@ impl Tally {
         counts.extend(self.nets.named());
         counts.extend(self.comparisons.named());
         counts.extend(self.net_joins.named());
+        counts.extend(self.offsets.named());
         counts.extend(numbered("books refused", &self.refused));
         counts.extend(numbered("joins refused", &self.joins));
         counts
@@ -144,6 +148,7 @@ impl fmt::Display for Tally {
         writeln!(out, "{}", self.nets)?;
         writeln!(out, "{}", self.comparisons)?;
         writeln!(out, "{}", self.net_joins)?;
+        writeln!(out, "{}", self.offsets)?;
         writeln!(
             out,
             "joins refused {not_joined}, for the second book {}",
@@ -178,6 +183,7 @@ mod tests {
             group: 7,
             room: 1_000,
             net_room: 1_000,
+            offset_room: 1_000,
             order: 0,
         });
         tally

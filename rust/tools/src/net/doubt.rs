@@ -1,9 +1,8 @@
 //! The netted rows once more, to hold the library's to.
 
 use super::count::counted;
-use crate::report::fields;
 use crate::text::whole;
-use books::names::CLASS_NAMES;
+use crate::written::unlike;
 use books::{Book, Row};
 
 /// The net of the rows of an issue, longs above zero.
@@ -30,27 +29,13 @@ fn netted(rows: &[Row]) -> Option<Vec<Row>> {
     Some(kept)
 }
 
-/// What of a class is not as it should be.
-fn of_class(class: usize, own: &[Row], expected: &[Row]) -> Option<String> {
-    let name = CLASS_NAMES[class];
-    if let Some(at) = (0..own.len().min(expected.len())).find(|at| own[*at] != expected[*at]) {
-        let [own, expected] = [own[at], expected[at]].map(|row| fields(class, &row));
-        return Some(format!(
-            "netted, {name} row {at} is by the library {own}, by the book {expected}"
-        ));
-    }
-    let (own, expected) = (own.len(), expected.len());
-    (own != expected)
-        .then(|| format!("{name} has {expected} rows netted, the library's book {own}"))
-}
-
 /// Why a book cannot be the netted one of another.
 pub fn doubt(book: &[u8], library: &[u8]) -> Option<String> {
     let Some((whole, own)) = Book::decode(book).zip(Book::decode(library)) else {
         return Some("the library's netted book is no book".into());
     };
     (0..own.classes.len()).find_map(|class| match netted(&whole.classes[class]) {
-        Some(expected) => of_class(class, &own.classes[class], &expected),
+        Some(expected) => unlike("netted", class, &own.classes[class], &expected),
         None => Some("the library netted an issue that is too large".into()),
     })
 }

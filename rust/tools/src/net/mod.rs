@@ -3,13 +3,13 @@
 mod count;
 mod doubt;
 
-use crate::cli::{no, print, usage, Args, Command, Failure, Outcome};
-use crate::files::{apart, input, is_output, read_book, write};
+use crate::cli::{no, print, Args, Command, Outcome};
+use crate::files::{apart, input, read_book, write};
 use crate::report::explain;
 use crate::text::whole;
+use crate::written::apart_from_line;
 pub use count::bound;
 use doubt::{doubt, doubt_count};
-use std::path::Path;
 
 pub const COMMAND: Command = Command {
     name: "net",
@@ -58,20 +58,10 @@ fn line(bytes: &[u8], comparisons: u64) -> String {
     format!("comparisons {made} of at most {most}\n")
 }
 
-/// The line must not run into a book on standard output.
-fn apart_from_line(to: &Path, wanted: bool) -> Result<(), Failure> {
-    match wanted && is_output(to) {
-        true => Err(usage(
-            "net: --comparisons prints on standard output, where the netted book goes",
-        )),
-        false => Ok(()),
-    }
-}
-
 fn run(args: &Args) -> Outcome {
     let [from, to] = args.files()?;
     let wanted = args.flag("--comparisons");
-    apart_from_line(to, wanted)?;
+    apart_from_line(to, wanted.then_some("net: --comparisons"), "netted")?;
     apart(to, &[from])?;
     let bytes = read_book(from)?;
     let (netted, comparisons) =

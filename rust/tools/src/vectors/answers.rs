@@ -3,7 +3,7 @@
 use super::build::{Call, Case};
 use crate::calls::{Calls, Second};
 
-/// What every byte of an output is before a join or netting.
+/// What every byte of an output is before a call that writes a book.
 const FILL: u8 = 0xa5;
 
 /// A checksum of an output, small enough at every step for 64 bits.
@@ -26,6 +26,13 @@ fn ladder(by: &dyn Calls, book: &[u8], table: &[u8], group: u16) -> (&'static st
     ("interest-ladder", out.to_vec())
 }
 
+/// The figures of a call that writes a book into so many bytes, and the checksum of these.
+fn writing<const N: usize>(room: u32, call: impl Fn(&mut [u8], &mut [u64; N])) -> Vec<u64> {
+    let (mut out, mut result) = (vec![FILL; room as usize], [0; N]);
+    call(&mut out, &mut result);
+    [&result[..], &[checksum(&out)]].concat()
+}
+
 /// The name of a call and its figures, by a calculation and its own table of document 01.
 fn answer(by: &dyn Calls, case: &Case) -> (&'static str, Vec<u64>) {
     let book = &case.book;
@@ -45,18 +52,18 @@ fn answer(by: &dyn Calls, case: &Case) -> (&'static str, Vec<u64>) {
             by.commodity_ladder(book, usize::from(*group), &mut commodity);
             ("commodity-ladder", commodity.to_vec())
         }
-        Call::Join { other, room } => {
-            let mut out = vec![FILL; *room as usize];
-            let mut result = [0; 4];
-            by.join(book, other, &mut out, &mut result);
-            ("join", [&result[..], &[checksum(&out)]].concat())
-        }
-        Call::Net { room } => {
-            let mut out = vec![FILL; *room as usize];
-            let mut result = [0; 5];
-            by.net(book, &mut out, &mut result);
-            ("net", [&result[..], &[checksum(&out)]].concat())
-        }
+        Call::Join { other, room } => (
+            "join",
+            writing(*room, |out, result| by.join(book, other, out, result)),
+        ),
+        Call::Net { room } => (
+            "net",
+            writing(*room, |out, result| by.net(book, out, result)),
+        ),
+        Call::Offset { room } => (
+            "offset",
+            writing(*room, |out, result| by.offset(book, out, result)),
+        ),
         Call::SmallBank => {
             by.small_bank(book, &mut small_bank);
             ("small-bank", small_bank.to_vec())
@@ -86,7 +93,7 @@ fn lines_by(by: &dyn Calls, cases: &[Case]) -> String {
 
 #[cfg(test)]
 mod tests {
-    use super::super::build::{call, charge_by, join, ladder_by, net, row, small_bank};
+    use super::super::build::{call, charge_by, join, ladder_by, net, offset, row, small_bank};
     use super::*;
     use crate::calls::Proved;
 
@@ -155,6 +162,19 @@ mod tests {
              net 12 0 0 0 0 {left}\n\
              net 0 0 0 56 3 {all}\n"
         );
+        assert_eq!(lines(&cases), expected);
+    }
+
+    /// The same of offsetting: the first two legs go; the third, and one byte past it, stay.
+    #[test]
+    fn lines_of_offsetting_have_every_figure() {
+        let legs = [(360, 5), (367, -5), (368, -5)].map(|(days, net)| row(7, 1, days, 800, net));
+        let legs = super::super::build::only(0, &legs);
+        let cases = [offset(&legs, 25), offset(&legs, 23), offset(&legs[..7], 0)];
+        let third = [&[1, 0, 0, 0, 0, 0, 0, 0][..], &legs[40..], &[0xa5]].concat();
+        let [third, short] = [&third, &vec![0xa5; 23]].map(|out| checksum(out));
+        let expected =
+            format!("offset 0 0 0 24 {third}\noffset 12 0 0 0 {short}\noffset 1 0 0 0 0\n");
         assert_eq!(lines(&cases), expected);
     }
 }

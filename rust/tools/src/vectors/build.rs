@@ -16,6 +16,7 @@ pub enum Call {
     Table,
     SmallBank,
     Net { room: u32 },
+    Offset { room: u32 },
 }
 
 /// One stored call.
@@ -59,6 +60,18 @@ fn length(room: usize) -> u32 {
 pub fn net(book: &[u8], room: usize) -> Case {
     let room = length(room);
     call(Call::Net { room }, book)
+}
+
+/// Offsetting with so much room.
+pub fn offset(book: &[u8], room: usize) -> Case {
+    let room = length(room);
+    call(Call::Offset { room }, book)
+}
+
+/// A call that writes a book of so many bytes, into an output of every length that matters.
+pub fn around(book: &[u8], written: usize, into: fn(&[u8], usize) -> Case) -> Vec<Case> {
+    let rooms = [0, 7, 8, written - 1, written, written + 1, book.len() + 40];
+    rooms.map(|room| into(book, room)).to_vec()
 }
 
 /// A join with so much room.

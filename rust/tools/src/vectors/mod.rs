@@ -13,6 +13,9 @@ mod loaded;
 mod net_counts;
 mod net_faults;
 mod nets;
+mod offset_faults;
+mod offset_limits;
+mod offsets;
 #[cfg(test)]
 mod page;
 mod random;
@@ -64,6 +67,8 @@ fn cases(seed: u64) -> Vec<Case> {
         nets::cases(seed),
         net_faults::cases(),
         net_counts::cases(),
+        offsets::cases(seed),
+        offset_faults::cases(),
     ]
     .concat()
 }
@@ -120,7 +125,7 @@ mod tests {
         }));
         assert!(books.len() >= 300, "{} books", books.len());
         let [(_, stdin), (_, stdout)] = files(1);
-        assert!(stdin.len() < 430_000, "{} bytes", stdin.len());
+        assert!(stdin.len() < 480_000, "{} bytes", stdin.len());
         assert!(stdout.len() < 300_000, "{} bytes", stdout.len());
     }
 
@@ -157,6 +162,12 @@ mod tests {
             assert!(seen("net", number), "net {number}");
         }
         assert!(!seen("net", 10) && !seen("net", 11));
+        for number in (0..=9).chain([12, 15]) {
+            assert!(seen("offset", number), "offset {number}");
+        }
+        assert!([10, 11, 13, 14]
+            .iter()
+            .all(|number| !seen("offset", *number)));
     }
 
     #[test]

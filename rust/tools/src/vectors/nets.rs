@@ -1,7 +1,7 @@
 //! Netting: the same bond long and short, places, numbers, classes and limits, outputs around the
 //! netted length, books of 4,000 rows, and random books.
 
-use super::build::{book, clean, net, only, row, Case};
+use super::build::{around, book, clean, net, only, row, Case};
 use super::worked;
 use books::generate::Shape;
 use books::issues::{spoil, Issues};
@@ -158,20 +158,15 @@ fn random(seed: u64) -> Vec<Vec<u8>> {
 }
 
 /// A book netted into an output of every length that matters.
-fn around(book: &[u8]) -> Vec<Case> {
-    let exact = second::netted(book).map_or(book.len(), |netted| netted.len());
-    let rooms = [0, 7, 8, exact - 1, exact, exact + 1, book.len() + 40];
-    rooms.map(|room| net(book, room)).to_vec()
+fn rooms(book: &[u8]) -> Vec<Case> {
+    let netted = second::netted(book).map_or(book.len(), |netted| netted.len());
+    around(book, netted, net)
 }
 
 /// All of them: the shortest with outputs of many lengths, the others with one.
 pub fn cases(seed: u64) -> Vec<Case> {
     let short = [worked_books(), places(), vec![notes(), vec![0; 8]]];
-    let mut cases: Vec<Case> = short
-        .concat()
-        .iter()
-        .flat_map(|book| around(book))
-        .collect();
+    let mut cases: Vec<Case> = short.concat().iter().flat_map(|book| rooms(book)).collect();
     let others = [classes(), limits(), random(seed)].concat();
     cases.extend(others.iter().map(|book| net(book, book.len() + 5)));
     for book in full_books() {

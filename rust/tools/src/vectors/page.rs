@@ -59,9 +59,13 @@ impl Reader<'_> {
             let room = room as u32;
             return Some(call(Call::Join { other, room }, &book));
         }
-        if tag == 10 {
+        if tag == 10 || tag == 11 {
             let (room, length) = (self.number(4) as u32, self.number(4));
-            return Some(call(Call::Net { room }, &self.book(length, runs)));
+            let book = self.book(length, runs);
+            return Some(match tag {
+                10 => call(Call::Net { room }, &book),
+                _ => call(Call::Offset { room }, &book),
+            });
         }
         let table = match tag {
             6 | 7 => self.table(),
@@ -119,6 +123,26 @@ fn thousands(number: usize) -> String {
     crate::text::whole(number as u64)
 }
 
+/// What the page says of the random books and tables.
+fn randoms() -> [String; 6] {
+    use super::{loaded, nets, offsets, random, small_banks};
+    let (books, tables) = (loaded::BOOKS, loaded::TABLES);
+    [
+        format!("- {} random books of the seed, each damaged", random::BOOKS),
+        format!("- {books} random books of the seed, each under a random table"),
+        format!("and {tables} random ones of the seed;"),
+        format!(
+            "- {} random pairs of such books of the seed",
+            small_banks::PAIRS
+        ),
+        format!(
+            "- {} random books of the seed whose rows share issues",
+            nets::BOOKS
+        ),
+        format!("- {} random books of swap legs of the seed", offsets::BOOKS),
+    ]
+}
+
 /// Catches a page whose sizes are no longer those of the stored files.
 #[test]
 fn the_page_states_the_sizes_of_what_is_stored() {
@@ -138,23 +162,7 @@ fn the_page_states_the_sizes_of_what_is_stored() {
     let page = String::from_utf8(stored("docs/VECTORS.md")).unwrap();
     let page = page.split_whitespace().collect::<Vec<_>>().join(" ");
     assert_eq!(page.matches(&stated).count(), 1, "{stated}");
-    let (books, tables) = (super::loaded::BOOKS, super::loaded::TABLES);
-    for random in [
-        format!(
-            "- {} random books of the seed, each damaged",
-            super::random::BOOKS
-        ),
-        format!("- {books} random books of the seed, each under a random table"),
-        format!("and {tables} random ones of the seed;"),
-        format!(
-            "- {} random pairs of such books of the seed",
-            super::small_banks::PAIRS
-        ),
-        format!(
-            "- {} random books of the seed whose rows share issues",
-            super::nets::BOOKS
-        ),
-    ] {
+    for random in randoms() {
         assert_eq!(page.matches(&random).count(), 1, "{random}");
     }
 }

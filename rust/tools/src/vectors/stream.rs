@@ -58,11 +58,11 @@ fn of_join(a: &[u8], b: &[u8], room: u32) -> Vec<u8> {
     [&[5 + form][..], &numbers.concat(), &books].concat()
 }
 
-/// Netting: tag, length of the output, length, book.
-fn of_net(book: &[u8], room: u32) -> Vec<u8> {
+/// A call that writes a book: tag, length of the output, length, book.
+fn of_writing(tag: u8, book: &[u8], room: u32) -> Vec<u8> {
     let (form, bytes) = shorter(&[book]);
     let numbers = [room.to_le_bytes(), length(book)];
-    [&[10 + form][..], &numbers.concat(), &bytes].concat()
+    [&[tag + form][..], &numbers.concat(), &bytes].concat()
 }
 
 /// One call.
@@ -78,7 +78,8 @@ fn record(case: &Case) -> Vec<u8> {
         Call::InterestLadderBy { table, group } => of_book(7, &with_length(table), *group, book),
         Call::Table => vec![8],
         Call::SmallBank => of_book(9, &[], 0, book),
-        Call::Net { room } => of_net(book, *room),
+        Call::Net { room } => of_writing(10, book, *room),
+        Call::Offset { room } => of_writing(11, book, *room),
     }
 }
 
@@ -91,7 +92,7 @@ pub fn encode(cases: &[Case]) -> Vec<u8> {
 
 #[cfg(test)]
 mod tests {
-    use super::super::build::{call, charge_by, ladder_by, net, small_bank};
+    use super::super::build::{call, charge_by, ladder_by, net, offset, small_bank};
     use super::super::cases;
     use super::super::page::read;
     use super::*;
@@ -111,7 +112,7 @@ mod tests {
                 Call::Join { other, room } => {
                     assert!(other.len() <= 65_536 && *room <= 65_536);
                 }
-                Call::Net { room } => assert!(*room <= 65_536),
+                Call::Net { room } | Call::Offset { room } => assert!(*room <= 65_536),
                 Call::ChargeBy { table } | Call::InterestLadderBy { table, .. } => {
                     assert!(table.len() <= 256);
                 }
@@ -145,15 +146,20 @@ mod tests {
         assert_eq!(super::record(&small_bank(&[7])), [9, 0, 0, 1, 0, 0, 0, 7]);
     }
 
-    /// Catches the two lengths of netting in each other's place.
+    /// Catches the two lengths of netting or of offsetting in each other's place, and one call's
+    /// tag that is the other's.
     #[test]
-    fn the_output_of_netting_comes_before_the_book() {
-        let record = [10, 4, 3, 0, 0, 8, 0, 0, 0, 1, 2, 3, 4, 5, 6, 7, 8];
-        assert_eq!(super::record(&net(&record[9..], 772)), record);
-        let book = [&[2, 0, 0, 0, 0, 0, 0, 0][..], &[5; 32]].concat();
-        let head = [0x8a, 24, 0, 0, 0, 40, 0, 0, 0];
-        let runs = [&head[..], &book[..8], &[2, 0], &[5; 16]].concat();
-        assert_eq!(super::record(&net(&book, 24)), runs);
+    fn the_length_of_the_output_comes_before_the_book() {
+        let of = |call: fn(&[u8], usize) -> Case, tag: u8| {
+            let record = [tag, 4, 3, 0, 0, 8, 0, 0, 0, 1, 2, 3, 4, 5, 6, 7, 8];
+            assert_eq!(super::record(&call(&record[9..], 772)), record);
+            let book = [&[2, 0, 0, 0, 0, 0, 0, 0][..], &[5; 32]].concat();
+            let head = [0x80 + tag, 24, 0, 0, 0, 40, 0, 0, 0];
+            let runs = [&head[..], &book[..8], &[2, 0], &[5; 16]].concat();
+            assert_eq!(super::record(&call(&book, 24)), runs);
+        };
+        of(net, 10);
+        of(offset, 11);
     }
 
     #[test]

@@ -1,6 +1,7 @@
 //! Running the command.
 #![allow(dead_code)]
 
+use std::fs;
 use std::path::PathBuf;
 use std::process::{Command, Output};
 
@@ -53,4 +54,24 @@ pub fn packed(name: &str, test: &str) -> String {
     let book = temporary(&format!("{test}-{name}.book"));
     prints(&["pack", &sample(name), &book]);
     book
+}
+
+/// The first line of CSV text.
+const HEADER: &str = "class,group,kind,days,coupon,issue,long,short";
+
+/// A book of some lines of CSV text.
+pub fn book(name: &str, lines: &[&str]) -> String {
+    let (csv, book) = (
+        temporary(&format!("{name}.csv")),
+        temporary(&format!("{name}.book")),
+    );
+    fs::write(&csv, format!("{HEADER}\n{}\n", lines.join("\n"))).unwrap();
+    prints(&["pack", &csv, &book]);
+    book
+}
+
+/// The lines of a book, without the header.
+pub fn unpacked(book: &str) -> Vec<String> {
+    let text = prints(&["unpack", book, "-"]);
+    text.lines().skip(1).map(String::from).collect()
 }

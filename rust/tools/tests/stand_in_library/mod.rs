@@ -8,8 +8,8 @@ use std::process::{Command, Output};
 use std::sync::OnceLock;
 use std::{env, fs};
 
-/// The eight calls, as the C interface names them.
-pub const CALLS: [&str; 8] = [
+/// The nine calls, as the C interface names them.
+pub const CALLS: [&str; 9] = [
     "check",
     "charge",
     "interest_ladder",
@@ -17,6 +17,7 @@ pub const CALLS: [&str; 8] = [
     "small_bank",
     "join",
     "net",
+    "offset",
     "table",
 ];
 
@@ -34,7 +35,7 @@ fn build(command: &mut Command) {
 }
 
 /// The files of the stand-in.
-const SOURCES: [&str; 3] = ["stand_in", "small_bank", "net"];
+const SOURCES: [&str; 4] = ["stand_in", "small_bank", "net", "offset"];
 
 /// Compiles a file of the stand-in into a folder and gives the object.
 fn object(folder: &str, name: &str) -> String {

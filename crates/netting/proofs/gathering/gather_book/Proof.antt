@@ -6,7 +6,7 @@ use native.Mathlib.Omega.{arith}
 use borrow.Author.Needs.{needs}
 use lib.ListN.{length}
 use Rattle.book.specs.declared.Counts.{Counts}
-use Rattle.book.specs.Counts.{countsOf, countIn, rowsBefore, bodyBy, bodyOf}
+use Rattle.book.specs.Counts.{countsOf, countIn, rowsBefore, bodyBy}
 use Rattle.book.specs.Legs.{legsOf, ofClass}
 use Rattle.book.specs.declared.Refusal.{Refusal}
 use Rattle.book.specs.Refusals.{mostRows, refused}
@@ -14,7 +14,7 @@ use Rattle.book.specs.Accepted.{Accepted}
 use Rattle.book.specs.Inner.Reading.{partRows}
 use Rattle.netting.specs.Netted.{differingRefusal}
 use Rattle.netting.specs.Inner.Gathering.{CanGather, Gathered, GatheredBook}
-use Rattle.netting.proofs.ClassRows.{part-rows, class-size}
+use Rattle.book.proofs.ClassRows.{class-size, first-is, rows-are}
 use Rattle.issues.specs.Agreeing.{differs}
 use Rattle.netting.proofs.Places.{place-within}
 use Rattle.netting.proofs.Classes.{GatheredTo, gathered-none, gathers, leaves, goes-on, gathered-all}
@@ -35,12 +35,8 @@ record Own (s : List ℕ) (class first : ℕ) (part : List ℕ) : Type 0 where
 -- where they were read by counts that are the book's own
 own-class : (s : List ℕ) → Accepted s → (counts : Counts) → counts ≡ countsOf s → (class first : ℕ) (part : List ℕ) → first ≡ rowsBefore counts class
     → part ≡ bodyBy counts s class → 1 ≤ class → class ≤ 4 → Own s class first part
-unfolding bodyOf
 own-class s ok counts own class first part is-first is-part low high =
-    record {
-      first-is = is-first ∙ ap (λ (n : Counts). rowsBefore n class) own;
-      rows-are = ap partRows (is-part ∙ ap (λ (n : Counts). bodyBy n s class) own) ∙ part-rows s ok class low high;
-    }
+    record { first-is = first-is s ok class low high counts own is-first is-part; rows-are = rows-are s ok class low high counts own is-first is-part }
 
 module _ {s : List ℕ} {class first : ℕ} {part : List ℕ} (own : Own s class first part) where
   can : {longs shorts : List ℕ} → CanGather (rowsBefore (countsOf s) class) (ofClass class (legsOf s)) longs shorts → CanGather first (partRows part) longs shorts
@@ -55,7 +51,7 @@ refused-there : {s : List ℕ} {r : Refusal} (row compared : ℕ) {longs shorts 
     → GatheredBook s r compared longs shorts
 unfolding refused
 refused-there {r} row compared is found =
-    record { is = is ∙ sym found; is-compared = λ none. absurd (never none); holds = λ none. absurd (never none) }
+    record { is = is ∙ sym found; tables = λ none. absurd (never none); is-compared = λ none. absurd (never none); holds = λ none. absurd (never none) }
   where
     never : r .number ≡ 0 → ⊥
     never none = omega (arith, sym (ap (λ (refusal : Refusal). refusal .number) is) ∙ none)

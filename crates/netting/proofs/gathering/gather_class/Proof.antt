@@ -15,7 +15,7 @@ use Rattle.book.specs.Refusals.{mostRows, mostAmount}
 use Rattle.book.specs.Inner.Reading.{rowOf, partRows}
 use Rattle.issues.specs.Agreeing.{sameTerms}
 use Rattle.netting.specs.Inner.Gathering.{gatheredIn, CanGather}
-use Rattle.netting.proofs.FirstRows.{noRow, row-is}
+use Rattle.book.proofs.ClassRows.{noRow, row-is}
 use Rattle.netting.proofs.Adding.{gathered-within, Adds, adds-none, few-kept, few-more, first-row-low, adds-next, adds-leaves, adds-all}
 use Rattle.netting.proofs.gathering.gather_class.Statement.{statement}
 use Rattle.netting.proofs.gathering.gather_class.Tie as tie

@@ -5,7 +5,7 @@ use borrow.Author.Needs.{needs}
 use Rattle.ladder.specs.declared.positions.Position.{Position}
 use Rattle.ladder.specs.Position.{gross}
 use Rattle.ladder.proofs.Matching.{net-sides}
-use Rattle.netting.specs.Inner.Nets.{positionsIn}
+use Rattle.amounts.specs.Inner.Standing.{positionsIn}
 use Rattle.netting.proofs.nets.absolute_at.Statement.{statement}
 use Rattle.netting.proofs.nets.absolute_at.Tie as tie
 

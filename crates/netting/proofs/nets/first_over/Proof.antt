@@ -6,7 +6,8 @@ use borrow.Author.Needs.{needs}
 use borrow.Author.Tests.{lt-ltb, le-ltb}
 use lib.Dec.{ltb}
 use Rattle.book.specs.Refusals.{mostAmount}
-use Rattle.netting.specs.Inner.Nets.{positionsIn, isOver}
+use Rattle.amounts.specs.Inner.Standing.{positionsIn}
+use Rattle.netting.specs.Inner.Nets.{isOver}
 use Rattle.netting.proofs.Numbers.{Unfound, unfound-none, unfound-next, found-here, found-none}
 use Rattle.netting.proofs.nets.first_over.Statement.{statement}
 use Rattle.netting.proofs.nets.first_over.Tie as tie

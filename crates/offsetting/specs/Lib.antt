@@ -1,0 +1,3 @@
+-- What offsetting writes, and whom it tells no.
+pub mod Offset
+pub mod Inner

@@ -1,0 +1,69 @@
+//! `offset`: a book without the swap legs that offset each other.
+
+mod doubt;
+
+use crate::cli::{no, print, Args, Command, Outcome};
+use crate::files::{apart, input, read_book, write};
+use crate::report::explain;
+use crate::text::whole;
+use crate::written::apart_from_line;
+pub use doubt::fit;
+use doubt::pairs;
+
+pub const COMMAND: Command = Command {
+    name: "offset",
+    brief: "a book of swap legs without the pairs that offset each other",
+    help: "market-risk offset BOOK OUT [--pairs]
+
+Writes the book without its offsetting swap legs: government rows of interest, taken in their
+order, each with the first later one that is still there and fits it. Two legs fit when they are
+of one currency, with equal amounts on opposite sides, coupons at most 15 basis points apart, and
+
+  days of the nearer leg   days apart, at most
+  under 30                  0
+  30 to 360                 7
+  over 360                 30
+
+All other rows stay, in order; issue numbers are not looked at. Keep the legs of one reference
+rate in a book of their own: the rows do not name it. What is left out depends on the order of
+the rows, and a charge may rise by it. The written book is a book like others: charge
+it with market-risk report, show it with market-risk unpack.
+
+Nothing is written when the book is refused. The written book is the proved library's. Its legs
+are offset here once more, and the command fails, and writes nothing, if another book is left.
+
+  --pairs   print how many pairs were left out, and how many rows are left. Not with an OUT that
+            is standard output, where the book goes
+",
+    options: &[],
+    flags: &["--pairs"],
+    run,
+};
+
+/// The library's book, held to the rows, and the pairs that it is without; or why there is none.
+fn offset(bytes: &[u8]) -> Result<(Vec<u8>, usize), String> {
+    let left = market_risk::offset_book(bytes).map_err(|refusal| explain(bytes, &refusal))?;
+    let pairs = pairs(bytes, &left)?;
+    Ok((left, pairs))
+}
+
+/// The line of the pairs.
+fn line(bytes: &[u8], pairs: usize) -> String {
+    let rows = bytes.len().saturating_sub(8) / 16;
+    let [pairs, left, rows] = [pairs, rows - 2 * pairs, rows].map(|count| whole(count as u64));
+    format!("pairs {pairs}, which leave {left} of {rows} rows\n")
+}
+
+fn run(args: &Args) -> Outcome {
+    let [from, to] = args.files()?;
+    let wanted = args.flag("--pairs");
+    apart_from_line(to, wanted.then_some("offset: --pairs"), "written")?;
+    apart(to, &[from])?;
+    let bytes = read_book(from)?;
+    let (left, pairs) = offset(&bytes).map_err(|why| no(format!("{}: {why}", input(from))))?;
+    write(to, &left)?;
+    match wanted {
+        true => print(&line(&bytes, pairs)),
+        false => Ok(()),
+    }
+}
