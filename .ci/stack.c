@@ -20,6 +20,9 @@ static uint8_t issues[sizeof book];
 /* The same book with government rows in interest, whose sides change from row to row: every two of them offset. */
 static uint8_t legs[sizeof book];
 
+/* The same legs with issue numbers: every two rows that offset are of two issues. */
+static uint8_t both[sizeof book];
+
 /* A small bank's book: the last two classes of the one above. */
 static uint8_t small[8 + 2 * ROWS * 16];
 
@@ -48,6 +51,9 @@ static void fill(void)
         legs[8 + 16 * row + 8] = row % 2 == 0 ? 5 : 0;
         legs[8 + 16 * row + 12] = row % 2 == 0 ? 0 : 5;
     }
+    memcpy(both, legs, sizeof legs);
+    for (size_t row = 0; row < 4 * ROWS; row++)
+        both[8 + 16 * row + 6] = row % 100;
 }
 
 static void check(void) { market_risk_check(book, sizeof book, out); }
@@ -64,6 +70,7 @@ static void join(void)
 
 static void net(void) { market_risk_net(issues, sizeof issues, joined, sizeof joined, out); }
 static void offset(void) { market_risk_offset(legs, sizeof legs, joined, sizeof joined, out); }
+static void net_and_offset(void) { market_risk_net_and_offset(both, sizeof both, joined, sizeof joined, out); }
 
 static size_t used(void (*call)(void))
 {
@@ -99,5 +106,5 @@ int main(void)
     refused += print_used("charge", charge) + print_used("interest_ladder", interest_ladder);
     refused += print_used("commodity_ladder", commodity_ladder) + print_used("small_bank", small_bank);
     refused += print_used("join", join) + print_used("net", net);
-    return refused + print_used("offset", offset);
+    return refused + print_used("offset", offset) + print_used("net_and_offset", net_and_offset);
 }

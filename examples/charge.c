@@ -1,8 +1,9 @@
 /* Charges some small books through the C interface and prints their reports, with the
  * interest charges of each currency that has any: under document 01's table, and one of them
  * under a table of its own. Then the charges of a bank with only foreign exchange and
- * commodities, those of one bond, long and short, before it is netted and after, and those of
- * three swap legs, before they offset each other and after, in two orders.
+ * commodities, those of one bond, long and short, before it is netted and after, those of
+ * three swap legs, before they offset each other and after, in two orders, and those of legs
+ * of one issue, netted and offset in one call.
  *
  *     cc -Wall -Wextra -Werror -Iinclude examples/charge.c target/staticlib/libmarket_risk.a -o charge
  */
@@ -80,6 +81,16 @@ static const uint8_t legs[8 + 3 * 16] = {
     7, 1, 0x68, 0x01, 0x20, 0x03, 0, 0, 100, 0, 0, 0, 0,   0, 0, 0,
     7, 1, 0x6f, 0x01, 0x20, 0x03, 0, 0, 0,   0, 0, 0, 100, 0, 0, 0,
     7, 1, 0x72, 0x01, 0x20, 0x03, 0, 0, 100, 0, 0, 0, 0,   0, 0, 0,
+};
+
+/* Currency 7, swap legs of coupon 800: long 100 at 900 days (0x0384), and of issue 7 at 910 (0x038e) short 60 and short 40. As they are,
+ * 17,500 are long and 17,500 short in one band, of which 10% count: 175,000 mils. Offsetting alone finds no pair; netted first, the issue is
+ * short 100, which goes with the first leg, and nothing is left. */
+static const uint8_t together[8 + 3 * 16] = {
+    3, 0, 0, 0, 0, 0, 0, 0,
+    7, 1, 0x84, 0x03, 0x20, 0x03, 0, 0, 100, 0, 0, 0, 0,  0, 0, 0,
+    7, 1, 0x8e, 0x03, 0x20, 0x03, 7, 0, 0,   0, 0, 0, 60, 0, 0, 0,
+    7, 1, 0x8e, 0x03, 0x20, 0x03, 7, 0, 0,   0, 0, 0, 40, 0, 0, 0,
 };
 
 /* A supervisor's own table, made up: 100 basis points in each of the fifteen bands; per cents
@@ -194,9 +205,24 @@ static void print_offset(const char *name, const uint8_t book[sizeof legs])
         print_report(name, left, result[3]);
 }
 
+/* Charges what is left when the book is netted and then offset, in one call, and tells how many comparisons that took. */
+static void print_net_and_offset(const char *name, const uint8_t book[sizeof together])
+{
+    uint8_t left[sizeof together];
+    uint64_t result[5];
+
+    market_risk_net_and_offset(book, sizeof together, left, sizeof left, result);
+    if (result[0] != 0) {
+        printf("%s\nrefused %" PRIu64 " row %" PRIu64 "\n", name, result[0], result[1]);
+        return;
+    }
+    print_report(name, left, result[3]);
+    printf("comparisons %" PRIu64 "\n", result[4]);
+}
+
 int main(void)
 {
-    uint8_t spoiled[sizeof classes], ended[sizeof floating], unlike[sizeof bonds], turned[sizeof legs], table[36];
+    uint8_t spoiled[sizeof classes], ended[sizeof floating], unlike[sizeof bonds], turned[sizeof legs], apart[sizeof together], table[36];
 
     market_risk_table(table);
     print_table("document 01's table", table);
@@ -226,5 +252,11 @@ int main(void)
     print_report("book of three swap legs", legs, sizeof legs);
     print_offset("the same, offset", legs);
     print_offset("the same with its last leg first, offset", turned);
+    memcpy(apart, together, sizeof together);
+    apart[8 + 2 * 16 + 2] = 0x8f; /* the last leg is a day longer than the first of its issue */
+    print_report("book of two legs of one issue and a third", together, sizeof together);
+    print_offset("the same, offset", together);
+    print_net_and_offset("the same, netted and offset", together);
+    print_net_and_offset("the same with its last leg a day longer, netted and offset", apart);
     return 0;
 }

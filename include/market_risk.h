@@ -28,9 +28,8 @@
  *
  * Pointers must hold as many bytes or entries as is said. A null pointer with length 0 is
  * a file or table of no bytes, or an output without room; a result is never null. A result
- * must not overlap a book or a table, nor the output of a join, of netting or of offsetting a
- * book that the call is given. No call keeps a pointer, allocates, or has state of its own, so
- * calls may run at once.
+ * must not overlap a book or a table, nor the output of a call that writes a book one that it is
+ * given. No call keeps a pointer, allocates, or has state of its own, so calls may run at once.
  *
  * The stack that a call takes, in bytes, measured on x86-64 and rounded up. No call
  * recurses, so no book and no table makes it more.
@@ -44,6 +43,7 @@
  *     market_risk_join               500
  *     market_risk_net              81000
  *     market_risk_offset           65000
+ *     market_risk_net_and_offset   82000
  *
  * The charge, the small bank, netting and offsetting call memset. Where the loader binds it at its
  * first call, that takes some 3000 bytes more, once.
@@ -139,6 +139,18 @@ void market_risk_net(const uint8_t *book, size_t len, uint8_t *out, size_t out_l
  * result: number, row, book (0); the length of the written book. */
 void market_risk_offset(const uint8_t *book, size_t len, uint8_t *out, size_t out_len,
                         uint64_t result[4]);
+
+/* Nets the book and then offsets the swap legs of the netted rows, in one call: what is written to
+ * the front of out, which has out_len bytes, is what market_risk_offset writes of the book that
+ * market_risk_net writes. The other order may leave other rows, which cost more or less. The
+ * netted book is not written on the way: bytes past the written book keep their values, and a
+ * refused call writes none. It is never longer than the book: len bytes are always enough. When
+ * every row has passed, 13 and 14 are tried as in market_risk_net, and then an output shorter than
+ * the written book is refused with 12, whether or not the netted book had room in it.
+ * result: number, row, book (0); the length of the written book; comparisons, as many as
+ * market_risk_net makes of this book. */
+void market_risk_net_and_offset(const uint8_t *book, size_t len, uint8_t *out, size_t out_len,
+                                uint64_t result[5]);
 
 #ifdef __cplusplus
 }

@@ -8,16 +8,20 @@ use native.Mathlib.Omega.{arith}
 use lib.ListN.{length, length-append}
 use Rattle.book.specs.declared.Counts.{Counts}
 use Rattle.book.specs.Counts.{contentsSize, rowSize, classes, countsOf, rowsBefore, rowCount, bodyOf}
+use Rattle.book.specs.declared.Refusal.{Refusal}
+use Rattle.book.specs.declared.Row.{Row}
 use Rattle.book.specs.Legs.{legsOf, ofClass}
 use Rattle.book.specs.Accepted.{Accepted}
 use Rattle.book.proofs.ClassRows.{part-rows, class-size}
 use Rattle.ladder.specs.Position.{Bands}
 use Rattle.layout.specs.Written.{written}
+use Rattle.layout.specs.declared.Written.{Written}
+use Rattle.layout.specs.Room.{roomRefusal, writtenOf, outputOf}
 use Rattle.layout.specs.Files.{rowBytes, contentsBytes, fileOf, countsBy, bookBy}
 use Rattle.layout.proofs.Writing.{written-after}
 use Rattle.layout.proofs.Whole.{contents-length}
-use Rattle.layout.proofs.Rows.{book-length}
-use Rattle.amounts.specs.Inner.Standing.{standingRows, standing, standingBook}
+use Rattle.layout.proofs.Rows.{book-length, book-same}
+use Rattle.amounts.specs.Inner.Standing.{positionsIn, standingRows, standing, standingBook, Stands}
 use Rattle.amounts.specs.Inner.Counting.{leftRows, classLeft, leftCounts}
 use Rattle.amounts.specs.Inner.Writing.{standingBody}
 use Rattle.amounts.proofs.Standing.{standing-length}
@@ -76,3 +80,18 @@ module _ (s : List ℕ) (ok : Accepted s) (positions : Bands) where
   writes-whole out room =
       let all : length contents + length bodies ≤ length out = rw (length-append contents bodies) at room in
       rw (counts-are, bodies-are, ← contents-length (countsBy (standing positions s))) (rw zero-add at (written-after out contents bodies 0 (omega arith)))
+
+-- the book of the rows that the tables make, as it is written
+module _ {s : List ℕ} {rows : ℕ → List Row} {longs shorts : List ℕ} (now : Stands s rows longs shorts) where
+  stands-book : standingBook (positionsIn longs shorts) s ≡ bookBy rows
+  unfolding standingBook
+  stands-book = book-same (standing (positionsIn longs shorts) s) rows (now .each)
+
+  pub stands-written : (out : List ℕ) {done : Written}
+      → done ≡ writtenOf (roomRefusal (length (standingBook (positionsIn longs shorts) s)) (length out)) (standingBook (positionsIn longs shorts) s)
+      → done ≡ writtenOf (roomRefusal (length (bookBy rows)) (length out)) (bookBy rows)
+  stands-written out is = rw stands-book at is
+
+  pub stands-output : (refusal : Refusal) (out : List ℕ) {after : List ℕ}
+      → after ≡ outputOf refusal (standingBook (positionsIn longs shorts) s) out → after ≡ outputOf refusal (bookBy rows) out
+  stands-output refusal out is = rw stands-book at is

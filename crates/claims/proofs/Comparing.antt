@@ -22,7 +22,7 @@ use Rattle.issues.specs.Issues.{has}
 use Rattle.issues.specs.Comparing.{comparisonsFrom, comparisons}
 use Rattle.issues.proofs.Comparing.{comparisons-from, comparisons-reached}
 use Rattle.book.proofs.ClassRows.{class-size}
-use Rattle.netting.specs.Netted.{issuesRefusal, comparisonsOf, nettingRefusal, nettedOf}
+use Rattle.netting.specs.Netted.{issuesRefusal, comparisonsOf, nettingRefusal, nettedAnswer, nettedOf}
 use Rattle.claims.specs.Netting.{ComparingHolds, ReachingHolds}
 use Rattle.claims.proofs.Writing.{neither-refused}
 
@@ -84,7 +84,7 @@ unfolding nettingRefusal issuesRefusal
 netted-accepted s room e = accepted s (neither-refused _ _ (neither-refused _ _ e .0) .0)
 
 pub comparing : ComparingHolds
-unfolding nettedOf figureOf
+unfolding nettedOf nettedAnswer figureOf
 comparing s room = go (eqb (nettingRefusal s room .number) 0) refl
   where
     go : (passes : Bool) → eqb (nettingRefusal s room .number) 0 ≡ passes → cond passes (comparisonsOf s) 0 ≤ length (legsOf s) * (length (legsOf s) - 1) / 2
@@ -93,7 +93,7 @@ comparing s room = go (eqb (nettingRefusal s room .number) 0) refl
     go false e = omega arith
 
 pub reaching : ReachingHolds
-unfolding nettedOf figureOf
+unfolding nettedOf nettedAnswer figureOf
 reaching s room e class low high all different =
     let rows = ofClass class (legsOf s) in
     let most = comparisons-reached [] (every-all (λ row. nothing-kept (row .issue)) rows) different in

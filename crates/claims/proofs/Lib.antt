@@ -17,3 +17,5 @@ pub mod NettingBooks
 pub mod Comparing
 pub mod Offsetting
 pub mod OffsettingBooks
+pub mod NetOffset
+pub mod OrderBooks

@@ -29,7 +29,7 @@ use Rattle.book.proofs.ClassRows.{rows-clean}
 use Rattle.join.specs.Joined.{addedCounts, joinedCounts, joined}
 use Rattle.join.proofs.Settling.{Joins, joins, not-refused}
 use Rattle.join.proofs.JoinedBook.{joined-accepted}
-use Rattle.netting.specs.Netted.{nettedClass, nettedBook, issuesRefusal, nettingRefusal, nettedOf, nettingOutput}
+use Rattle.netting.specs.Netted.{nettedClass, nettedBook, issuesRefusal, nettingRefusal, nettedAnswer, nettedOf, nettingOutput}
 use Rattle.market_risk.specs.Entries.{reportFigures}
 use Rattle.claims.specs.Zones.{TwoZonesEach}
 use Rattle.claims.specs.Demands.{Within, all-within, one-within, AtMost, no-figures, figure}
@@ -48,7 +48,7 @@ netted-class-fewer : (s : List ℕ) (class : ℕ) → length (nettedClass s clas
 netted-class-fewer s class = netted-fewer (classRows s class)
 
 module _ {s : List ℕ} (able : Nettable s) where
-  netted-accepted : Accepted (nettedBook s)
+  pub netted-accepted : Accepted (nettedBook s)
   unfolding nettedBook
   netted-accepted =
       fewer-accepted (able .accepted) (nettedClass s) (netted-class-fewer s)
@@ -88,8 +88,8 @@ thinner-book table fine s t of-s of-t thins =
     (exchange-thins (thins 3 (omega arith) (omega arith))) (commodities-thin (thins 4 (omega arith) (omega arith))))
 
 -- the bytes that netting writes are the netted book
-netted-bytes : (s out : List ℕ) → nettingRefusal s (length out) .number ≡ 0 → take (nettedOf s (length out) .length) (nettingOutput s out) ≡ nettedBook s
-unfolding nettedOf nettingOutput figureOf outputOf
+pub netted-bytes : (s out : List ℕ) → nettingRefusal s (length out) .number ≡ 0 → take (nettedOf s (length out) .length) (nettingOutput s out) ≡ nettedBook s
+unfolding nettedOf nettedAnswer nettingOutput figureOf outputOf
 netted-bytes s out e = rw (eq-eqb _ _ e) (book-bytes (nettedBook s) out)
 
 pub netting : NettingHolds

@@ -8,14 +8,14 @@ use Rattle.issues.specs.Agreeing.{sameTerms, unlikeFirst, differs, overLimit}
 use Rattle.issues.specs.Comparing.{comparedWith, comparisonsFrom}
 use Rattle.layout.specs.Files.{bookOf}
 use Rattle.layout.specs.Room.{orNext, roomRefusal, figureOf, outputOf}
-use Rattle.netting.specs.Netted.{firstFound, foundInClass, issuesRefusal, nettedBook, comparisonsOf, nettingRefusal, nettedOf, nettingOutput}
+use Rattle.netting.specs.Netted.{firstFound, foundInClass, issuesRefusal, nettedBook, comparisonsOf, nettingRefusal, nettedAnswer, nettedOf, nettingOutput}
 use Rattle.claims.specs.Worked.{Worked, costs}
 use Rattle.claims.specs.WrittenBooks.{bond}
 use Rattle.claims.specs.NettingFacts.{writtenFacts, toldFacts, nearIssue, farIssue, joinedIssue, ableFacts, comparedFacts, joinedFacts}
 use Rattle.claims.proofs.WorkedBooks.{given}
 
 unfoldable pub netted : List Worked → List (List ℕ)
-unfolding given has placed nettedFrom sameTerms unlikeFirst differs overLimit comparedWith comparisonsFrom comparisonsOf firstFound foundInClass orNext issuesRefusal roomRefusal figureOf outputOf nettedBook nettingRefusal nettedOf nettingOutput
+unfolding given has placed nettedFrom sameTerms unlikeFirst differs overLimit comparedWith comparisonsFrom comparisonsOf firstFound foundInClass orNext issuesRefusal roomRefusal figureOf outputOf nettedBook nettingRefusal nettedAnswer nettedOf nettingOutput
 netted facts = given facts
 
 pub written-facts : netted writtenFacts ≡ map (λ w. w .expected) writtenFacts

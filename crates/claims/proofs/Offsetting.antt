@@ -32,7 +32,7 @@ use Rattle.claims.proofs.Writing.{neither-refused, classes-each, book-b
 -- ---- the rows of each class, the interest rows offset
 module _ (rows : ℕ → List Row) (class : ℕ) where
   -- what holds of the rows of a class, both offset and as they are, holds of those that are written
-  by-class : (P : List Row → Type 0) → P (offsetRows (rows class)) → P (rows class) → P (offsetBy rows class)
+  pub by-class : (P : List Row → Type 0) → P (offsetRows (rows class)) → P (rows class) → P (offsetBy rows class)
   unfolding offsetBy
   by-class P offset same = go (eqb class 1)
     where
@@ -44,7 +44,7 @@ module _ (rows : ℕ → List Row) (class : ℕ) where
   by-class-fewer = by-class (λ left. length left ≤ length (rows class)) (offset-fewer (rows class)) (le-refl _)
 
   -- offset again, the rows that are left stay
-  by-class-again : (left : ℕ → List Row) → left class ≡ offsetBy rows class → offsetBy left class ≡ offsetBy rows class
+  pub by-class-again : (left : ℕ → List Row) → left class ≡ offsetBy rows class → offsetBy left class ≡ offsetBy rows class
   unfolding offsetBy
   by-class-again left e = rw e (go (eqb class 1))
     where

@@ -1,4 +1,4 @@
--- What is claimed: the accepted books and their parts, joining, order and mirror, the charge of each currency, netting, offsetting; the books worked by hand, and facts of document 01.
+-- What is claimed: the accepted books and their parts, joining, order and mirror, the charge of each currency, netting, offsetting, the two in one call; the books worked by hand, and facts of document 01.
 pub mod Zones
 pub mod Orders
 pub mod Demands
@@ -14,3 +14,5 @@ pub mod WrittenBooks
 pub mod NettingFacts
 pub mod Offsetting
 pub mod OffsettingFacts
+pub mod NetOffset
+pub mod OrderFacts

@@ -13,8 +13,11 @@ abbrev pub issued : (class group kind days coupon issue long short : ℕ) → Le
 issued class group kind days coupon issue long short =
     record { class = class; row = record { group = group; kind = kind; days = days; coupon = coupon; issue = issue; long = long; short = short } }
 
+abbrev pub bondIn : (group days issue long short : ℕ) → Leg
+bondIn group days issue long short = issued 1 group 1 days 800 issue long short
+
 abbrev pub bond : (days issue long short : ℕ) → Leg
-bond days issue long short = issued 1 9 1 days 800 issue long short
+bond = bondIn 9
 
 abbrev pub share : (issue long short : ℕ) → Leg
 share issue long short = issued 2 9 1 0 0 issue long short

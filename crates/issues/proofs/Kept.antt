@@ -19,7 +19,7 @@ use Rattle.ladder.specs.Rows.{Reading, Used, AtMostTwoZones}
 use Rattle.ladder.proofs.Matching.{net-sides}
 use Rattle.issues.specs.Issues.{issuesOf, has, holding, placed, nettedFrom, nettedRows}
 use Rattle.issues.specs.Agreeing.{CanBeNetted}
-use Rattle.issues.proofs.Walking.{has-own, has-other, issue-other, Place, stays, gone, stands, place, row-stays, row-gone, row-stands, placed-none, placed-some}
+use Rattle.issues.proofs.Walking.{has-own, has-other, amounts, issue-other, Place, stays, gone, stands, place, row-stays, row-gone, row-stands, placed-none, placed-some}
 use Rattle.issues.proofs.Counted.{bare}
 
 -- what a netted row is
@@ -71,6 +71,14 @@ kept-from all seen (row ∷ rows) member same =
 
 pub netted-kept : (rows : List Row) → Every (Kept rows) (nettedRows rows)
 netted-kept rows = kept-from rows [] rows (λ row member. member) (λ i some new. refl)
+
+-- so one that has an issue number has the net of its issue
+pub netted-net : (rows : List Row) (row : Row) → List·Memᴰ row (nettedRows rows) → (row .issue ≡ 0 → ⊥) → net (issuesOf rows (row .issue)) ≡ amounts row
+netted-net rows row member some = of (every-member (netted-kept rows) row member) some
+  where
+    of : {row : Row} → Kept rows row → (row .issue ≡ 0 → ⊥) → net (issuesOf rows (row .issue)) ≡ amounts row
+    of (as-it-was was nil) some = absurd (some nil)
+    of (with-net was issued left) some = refl
 
 -- ---- its class allows it
 one-side-left : (a : Position) → (gross (net a) ≡ 0 → ⊥) → ((0 < net a .long) × (net a .short ≡ 0)) ⊎ ((net a .long ≡ 0) × (0 < net a .short))

@@ -10,6 +10,7 @@ ghost use Rattle.charges.specs.SmallBank.{smallBankOf};
 ghost use Rattle.join.specs.Joined.{joinedOf, joinOutput};
 ghost use Rattle.netting.specs.Netted.{nettedOf, nettingOutput};
 ghost use Rattle.offsetting.specs.Offset.{offsetOf, offsettingOutput};
+ghost use Rattle.offsetting.specs.NetOffset.{netOffsetOf, netOffsetOutput};
 ghost use Rattle.market_risk.specs.Entries.{refusalEntries, reportEntries, interestEntries, commodityEntries, smallEntries, joinedEntries, nettedEntries, writtenEntries};
 
 // The entries of a report: its refusal and figures, and two for each currency.
@@ -179,5 +180,21 @@ pub extern "C" fn market_risk_offset(book: &[u8], out: &mut [u8], result: &mut [
         left.refusal.row as u64,
         left.refusal.book as u64,
         left.length as u64,
+    ];
+}
+
+// Nets the issues of a book and then drops its fitting swap legs, into out: bytes past the result keep their values, of a refused call all do.
+#[no_mangle]
+pub extern "C" fn market_risk_net_and_offset(book: &[u8], out: &mut [u8], result: &mut [u64; 5])
+    ensures { λ r. ⌜ now (out .exit) ≡ netOffsetOutput (now (book .entry)) (now (out .entry)) ⌝ }
+    ensures { λ r. ⌜ now (result .exit) ≡ nettedEntries (netOffsetOf (now (book .entry)) (len (now (out .entry)))) ⌝ }
+{
+    let both = offsetting::net_and_offset(book, out);
+    *result = [
+        both.refusal.number as u64,
+        both.refusal.row as u64,
+        both.refusal.book as u64,
+        both.length as u64,
+        both.comparisons as u64,
     ];
 }

@@ -56,14 +56,13 @@ comparisonsOf s = sumOf (λ class. comparisons (ofClass class (legsOf s))) class
 unfoldable pub nettingRefusal : List ℕ → ℕ → Refusal
 nettingRefusal s room = orNext (issuesRefusal s) (roomRefusal (length (nettedBook s)) room)
 
--- the answer: the refusal, the length of the netted book (P1) and the comparisons (P7)
+-- the answer of a call that nets and writes a book: the refusal, the length of what is written (P1) and the comparisons (P7)
+unfoldable pub nettedAnswer : Refusal → List ℕ → ℕ → Netted
+nettedAnswer refusal book comparisons =
+    record { refusal = refusal; length = figureOf refusal (length book); comparisons = figureOf refusal comparisons }
+
 unfoldable pub nettedOf : List ℕ → ℕ → Netted
-nettedOf s room =
-    record {
-      refusal = nettingRefusal s room;
-      length = figureOf (nettingRefusal s room) (length (nettedBook s));
-      comparisons = figureOf (nettingRefusal s room) (comparisonsOf s);
-    }
+nettedOf s room = nettedAnswer (nettingRefusal s room) (nettedBook s) (comparisonsOf s)
 
 -- the output afterwards (P1)
 unfoldable pub nettingOutput : List ℕ → List ℕ → List ℕ

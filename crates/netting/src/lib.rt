@@ -1,6 +1,6 @@
 // Nets the issues of a book into an output that the caller lends.
 mod firsts;
-mod gathering;
+pub mod gathering;
 mod nets;
 
 use crate::gathering::BookSums;
@@ -58,7 +58,7 @@ fn net_accepted(book: &[u8], counts: Counts, out: &mut [u8]) -> Netted
 }
 
 // The nets of an accepted book's issues in tables of zeros: 13 over the whole book, then 14; all zero where neither applies.
-fn settle(
+pub fn settle(
     book: &[u8],
     counts: Counts,
     longs: &mut [u64; MOST_ROWS],
@@ -81,7 +81,7 @@ fn settle(
 }
 
 // A refusal: nothing is written.
-fn refused(refusal: Refusal) -> Netted
+pub fn refused(refusal: Refusal) -> Netted
     ensures { λ r. ⌜ r ≡ refusedNetting refusal ⌝ }
 {
     Netted {

@@ -73,14 +73,13 @@ module _ (s out : List ℕ) where
       record { is = rw (e, no-figure refusal some (length (offsetBook s))); output = rw e (sym (output-kept refusal some (offsetBook s) out)) }
 
   -- it is written, or 12 is given
-  room-alone : Accepted s → {book : List ℕ} → book ≡ offsetBook s → offsettingRefusal s (length out) ≡ roomRefusal (length book) (length out)
+  room-alone : Accepted s → offsettingRefusal s (length out) ≡ roomRefusal (length (offsetBook s)) (length out)
   unfolding offsettingRefusal refused
-  room-alone ok is-book = or-next (refusalOf s) _ (ap (λ (refusal : Refusal). refusal .number) (refused-with-none s ok)) ∙ rw is-book
+  room-alone ok = or-next (refusalOf s) _ (ap (λ (refusal : Refusal). refusal .number) (refused-with-none s ok))
 
-  pub carried-out : Accepted s → {book : List ℕ} → book ≡ offsetBook s → {r : Written} → r ≡ writtenOf (roomRefusal (length book) (length out)) book
-      → {after : List ℕ} → after ≡ outputOf (r .refusal) book out → Answers r after
+  pub carried-out : Accepted s → {r : Written} → r ≡ writtenOf (roomRefusal (length (offsetBook s)) (length out)) (offsetBook s)
+      → {after : List ℕ} → after ≡ outputOf (r .refusal) (offsetBook s) out → Answers r after
   unfolding offsetOf offsettingOutput writtenOf
-  carried-out ok {book} is-book {r} is is-after =
-      let room = room-alone ok is-book in
-      let found : r .refusal ≡ roomRefusal (length book) (length out) = ap (λ (w : Written). w .refusal) is in
-      record { is = is ∙ rw (room, is-book); output = is-after ∙ rw (found, room, is-book) }
+  carried-out ok {r} is is-after =
+      let found : r .refusal ≡ roomRefusal (length (offsetBook s)) (length out) = ap (λ (w : Written). w .refusal) is in
+      record { is = is ∙ rw (room-alone ok); output = is-after ∙ rw (found, room-alone ok) }

@@ -15,6 +15,7 @@ fn apart(a: u16, b: u16) -> u16
     if a < b { b - a } else { a - b }
 }
 
+// The smaller of two numbers.
 fn nearer(a: u16, b: u16) -> u16
     ensures { λ r. ⌜ r ≡ min a b ⌝ }
 {

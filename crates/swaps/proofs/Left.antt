@@ -1,10 +1,10 @@
--- The rows that are left when pairs that fit are dropped: rows of the book, no more of them, the rows of other kinds in their order, no two that fit;
--- and offset again they stay as they are.
+-- The rows that are left when pairs that fit are dropped: some of the rows in their order, all rows of other kinds among them, no two that fit; and offset
+-- again they stay as they are.
 -- Assumes nothing.
 use Prim.Native.Nat.{_≤_}
-use mathlib.Core.Path.{_≡_, refl, sym, _∙_}
+use mathlib.Core.Path.{_≡_, refl, sym, subst, _∙_}
 use mathlib.Core.Bool.{Bool, true, false, cond, _||_, false≢true}
-use mathlib.Core.List.{List, [], _∷_, List·Memᴰ, List·Memᴰ·head, List·Memᴰ·tail}
+use mathlib.Core.List.{List, [], _∷_, List·Memᴰ, List·Memᴰ·head, List·Memᴰ·tail, Sublistᴰ, Sublistᴰ·slnil, Sublistᴰ·cons, Sublistᴰ·cons-cons, Sublistᴰ·refl, Sublistᴰ·trans}
 use native.Mathlib.Omega.{arith}
 use lib.ListN.{length}
 use Rattle.sums.specs.Every.{Every, none, also}
@@ -16,23 +16,32 @@ use Rattle.swaps.specs.Offset.{someFits, withoutFit, offsetFrom, offsetR
 use Rattle.swaps.proofs.Fitting.{fits-government, fits-symmetric}
 use Rattle.swaps.proofs.Stepping.{without-fewer, offset-next, Leaves, nothing, dropped, stays, leaves}
 
--- ---- what holds of every row holds of every row that is left
-without-every : {P : Row → Type 0} (row : Row) {rows : List Row} → Every P rows → Every P (withoutFit row rows)
+-- ---- they are some of the rows, in their order
+without-some : (row : Row) (rows : List Row) → Sublistᴰ (withoutFit row rows) rows
 unfolding withoutFit
-without-every row none = none
-without-every {P} row (also {a = later} {rest = rows} p rest) = go (fits row later) (without-every row rest)
+without-some row [] = Sublistᴰ·slnil
+without-some row (later ∷ rows) = go (fits row later) (without-some row rows)
   where
-    go : (test : Bool) → Every P (withoutFit row rows) → Every P (cond test rows (later ∷ withoutFit row rows))
-    go true less = rest
-    go false less = also p less
+    go : (test : Bool) → Sublistᴰ (withoutFit row rows) rows → Sublistᴰ (cond test rows (later ∷ withoutFit row rows)) (later ∷ rows)
+    go true less = Sublistᴰ·cons (Sublistᴰ·refl rows)
+    go false less = Sublistᴰ·cons-cons refl less
 
-leaves-every : {P : Row → Type 0} {rows left : List Row} → Leaves rows left → Every P rows → Every P left
-leaves-every nothing none = none
-leaves-every (dropped {row} some rest) (also p every) = leaves-every rest (without-every row every)
-leaves-every (stays no-one rest) (also p every) = also p (leaves-every rest every)
+leaves-some : {rows left : List Row} → Leaves rows left → Sublistᴰ left rows
+leaves-some nothing = Sublistᴰ·slnil
+leaves-some (dropped {row} {rows} some rest) = Sublistᴰ·cons (Sublistᴰ·trans (leaves-some rest) (without-some row rows))
+leaves-some (stays no-one rest) = Sublistᴰ·cons-cons refl (leaves-some rest)
+
+pub offset-some : (rows : List Row) → Sublistᴰ (offsetRows rows) rows
+offset-some rows = leaves-some (leaves rows)
+
+-- what holds of every row holds of every row that is left
+some-every : {P : Row → Type 0} {rows left : List Row} → Sublistᴰ left rows → Every P rows → Every P left
+some-every Sublistᴰ·slnil none = none
+some-every (Sublistᴰ·cons some) (also p every) = some-every some every
+some-every {P} (Sublistᴰ·cons-cons e some) (also p every) = also (subst P (sym e) p) (some-every some every)
 
 pub offset-every : {P : Row → Type 0} {rows : List Row} → Every P rows → Every P (offsetRows rows)
-offset-every {P} {rows} = leaves-every (leaves rows)
+offset-every {rows} = some-every (offset-some rows)
 
 -- ---- there are no more rows than before
 leaves-fewer : {rows left : List Row} → Leaves rows left → length left ≤ length rows
@@ -95,7 +104,7 @@ none-fits row (later ∷ rows) e = let parts = neither _ _ e in also (parts .0) 
 leaves-none-fit : {rows left : List Row} → Leaves rows left → NoneFit left
 leaves-none-fit nothing = no-rows
 leaves-none-fit (dropped some rest) = leaves-none-fit rest
-leaves-none-fit (stays {row} {rows} no-one rest) = one-more (leaves-every rest (none-fits row rows no-one)) (leaves-none-fit rest)
+leaves-none-fit (stays {row} {rows} no-one rest) = one-more (some-every (leaves-some rest) (none-fits row rows no-one)) (leaves-none-fit rest)
 
 pub offset-none-fit : (rows : List Row) → NoneFit (offsetRows rows)
 offset-none-fit rows = leaves-none-fit (leaves rows)

@@ -1,6 +1,7 @@
 // The line of a call: its name and every figure that it gives.
 use book::Refusal;
 use libc::STDOUT_FILENO;
+use netting::Netted;
 ghost use Prim.Native.Nat.{_<_};
 
 fn start(name: &[u8], refusal: Refusal) {
@@ -103,10 +104,20 @@ pub fn join(a: &[u8], b: &[u8], out: &mut [u8]) {
 }
 
 pub fn net(book: &[u8], out: &mut [u8]) {
-    let netted = netting::net(book, out);
-    start(b"net", netted.refusal);
-    figure(netted.length as u64);
-    figure(netted.comparisons as u64);
+    let answer = netting::net(book, out);
+    netted(b"net", answer, out);
+}
+
+pub fn net_and_offset(book: &[u8], out: &mut [u8]) {
+    let answer = offsetting::net_and_offset(book, out);
+    netted(b"net-and-offset", answer, out);
+}
+
+// The line of a call that nets.
+fn netted(name: &[u8], answer: Netted, out: &[u8]) {
+    start(name, answer.refusal);
+    figure(answer.length as u64);
+    figure(answer.comparisons as u64);
     figure(checksum(out));
     end();
 }

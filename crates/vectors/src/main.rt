@@ -60,7 +60,7 @@ fn answer_join(in_runs: bool) -> bool {
     write_into(5, &a[..m], &b[..n], room)
 }
 
-// Joins two books, nets the first or offsets it, into an output of as many bytes as there is room for, each 165 before.
+// Joins two books, nets the first, offsets it or does both, into an output of as many bytes as there is room for, each 165 before.
 fn write_into(call: u8, a: &[u8], b: &[u8], room: usize) -> bool {
     let mut out = [165u8; 65536];
     if out.len() < room {
@@ -69,7 +69,8 @@ fn write_into(call: u8, a: &[u8], b: &[u8], room: usize) -> bool {
     match call {
         5 => lines::join(a, b, &mut out[..room]),
         10 => lines::net(a, &mut out[..room]),
-        _ => lines::offset(a, &mut out[..room]),
+        11 => lines::offset(a, &mut out[..room]),
+        _ => lines::net_and_offset(a, &mut out[..room]),
     }
     true
 }
@@ -98,7 +99,7 @@ fn answer_next() -> bool {
         7 => answer_by_table(3, in_runs),
         8 => answer_table(),
         9 => answer_standard(call, in_runs),
-        10..=11 => answer_written(call, in_runs),
+        10..=12 => answer_written(call, in_runs),
         _ => false,
     }
 }

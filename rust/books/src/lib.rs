@@ -13,6 +13,7 @@ pub mod legs;
 pub mod names;
 pub mod random;
 pub mod small;
+pub mod split;
 pub mod tables;
 
 pub use file::{Book, Row, CLASSES, MOST_ROWS, ROW_BYTES};

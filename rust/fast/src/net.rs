@@ -10,10 +10,10 @@ const BLOCK: usize = 16;
 
 /// What is kept of the rows, N at most: a row of each issue in the place of its first, and every
 /// row that has no issue number.
-struct Kept<const N: usize> {
+pub struct Kept<const N: usize> {
     /// Bytes 0 to 7.
-    heads: [u64; N],
-    nets: [i64; N],
+    pub heads: [u64; N],
+    pub nets: [i64; N],
     /// The number of the first row in the file.
     rows: [u16; N],
     count: usize,
@@ -162,10 +162,13 @@ impl<const N: usize> Netting<N> {
     }
 }
 
-/// Nets a book of at most N rows: its length netted, and the comparisons. Each class has a loop of
-/// its own, with its limits in it.
+/// Nets a book of at most N rows, and offsets its legs where that is wanted: the length that is
+/// written, and the comparisons. Each class has a loop of its own, with its limits in it.
 #[inline(always)]
-fn within<const N: usize>(book: &Book, out: &mut [u8]) -> Result<[usize; 2], Bad> {
+fn within<const N: usize, const OFFSET: bool>(
+    book: &Book,
+    out: &mut [u8],
+) -> Result<[usize; 2], Bad> {
     let mut netting = Netting::<N>::NOTHING;
     let ends = [
         netting.take(book, 0)?,
@@ -175,6 +178,9 @@ fn within<const N: usize>(book: &Book, out: &mut [u8]) -> Result<[usize; 2], Bad
     ];
     refuse(13, netting.unlike)?;
     refuse(14, netting.kept.over())?;
+    if OFFSET {
+        netting.kept.offset(ends[0]);
+    }
     let length = written(&netting.kept, ends, out)?;
     Ok([length, netting.seen.comparisons])
 }
@@ -200,13 +206,19 @@ fn written<const N: usize>(kept: &Kept<N>, ends: [usize; 4], out: &mut [u8]) -> 
     Ok(length)
 }
 
-/// Number, row, book; the length of the netted book at the front of `out`; comparisons. A small book
-/// has small arrays: clearing those of a full one takes longer than netting it.
+/// Number, row, book; the length of the netted book at the front of `out`; comparisons.
 pub fn net(bytes: &[u8], out: &mut [u8], result: &mut [u64; 5]) {
+    netting::<false>(bytes, out, result);
+}
+
+/// The same, with the legs offset or not. A small book has small arrays: clearing those of a full
+/// one takes longer than netting it.
+#[inline(always)]
+pub fn netting<const OFFSET: bool>(bytes: &[u8], out: &mut [u8], result: &mut [u64; 5]) {
     let netted = Book::open(bytes).and_then(|book| match book.rows {
-        0..=64 => within::<64>(&book, out),
-        65..=512 => within::<512>(&book, out),
-        _ => within::<MOST_ROWS>(&book, out),
+        0..=64 => within::<64, OFFSET>(&book, out),
+        65..=512 => within::<512, OFFSET>(&book, out),
+        _ => within::<MOST_ROWS, OFFSET>(&book, out),
     });
     *result = match netted {
         Ok([length, comparisons]) => [0, 0, 0, length as u64, comparisons as u64],

@@ -8,88 +8,96 @@ use std::ops::Range;
 /// How many legs are looked at at once.
 const BLOCK: usize = 16;
 
-/// The kind of legs.
-const LEG: usize = 1;
-
-/// The interest rows of a book, N at most, and what each has on its side: the signed amount of a
-/// leg that is still there, and 0 for every other row.
-struct Legs<'a, const N: usize> {
-    rows: &'a [u8],
-    amounts: [i32; N],
+/// Interest rows in file order, N at most, and what each has on its side: the signed amount of a leg
+/// that is still there, and 0 for every other row. Their currencies are asked for by their places.
+pub struct Legs<G, const N: usize> {
+    groups: G,
+    pub amounts: [i32; N],
     days: [u16; N],
     coupons: [u16; N],
-    count: usize,
+    pub count: usize,
 }
 
 /// Whether days and coupons of two legs are close enough: no branch.
 #[inline(always)]
-fn close(leg: Row, days: u16, coupon: u16) -> bool {
-    let near = leg.days().min(days);
+fn close(one: [u16; 2], two: [u16; 2]) -> bool {
+    let near = one[0].min(two[0]);
     let most = 7 * u16::from(near >= 30) + 23 * u16::from(near > 360);
-    (leg.coupon().abs_diff(coupon) <= 15) & (leg.days().abs_diff(days) <= most)
+    (one[1].abs_diff(two[1]) <= 15) & (one[0].abs_diff(two[0]) <= most)
 }
 
-impl<const N: usize> Legs<'_, N> {
-    /// Takes an accepted row in.
+impl<G: Fn(usize) -> usize, const N: usize> Legs<G, N> {
+    /// No rows yet.
     #[inline(always)]
-    fn push(&mut self, row: Row) {
+    pub fn new(groups: G) -> Self {
+        Legs {
+            groups,
+            amounts: [0; N],
+            days: [0; N],
+            coupons: [0; N],
+            count: 0,
+        }
+    }
+
+    /// Takes an accepted row in, with an amount of its own.
+    #[inline(always)]
+    pub fn push(&mut self, row: Row, net: i64) {
         let place = self.count;
-        self.amounts[place] = i32::from(row.kind() == LEG) * row.net() as i32;
+        self.amounts[place] = i32::from(row.is_leg()) * net as i32;
         (self.days[place], self.coupons[place]) = (row.days(), row.coupon());
         self.count += 1;
     }
 
-    /// The accepted row at a place.
+    /// Days and coupon of the row at a place.
     #[inline(always)]
-    fn row(&self, at: usize) -> Row {
-        let bytes = &self.rows[16 * at..16 * at + 16];
-        Row::decode(bytes.try_into().expect("16 bytes"))
+    fn terms(&self, at: usize) -> [u16; 2] {
+        [self.days[at], self.coupons[at]]
     }
 
-    /// The first leg of some places that has an amount and fits a leg.
+    /// The first leg of some places that fits the leg at a place.
     #[inline(always)]
-    fn within(&self, places: Range<usize>, wanted: i32, leg: Row) -> Option<usize> {
+    fn within(&self, places: Range<usize>, leg: usize) -> Option<usize> {
         let fits = |at: &usize| {
-            let close = close(leg, self.days[*at], self.coupons[*at]);
-            (self.amounts[*at] == wanted) & close && self.row(*at).group() == leg.group()
+            let close = close(self.terms(leg), self.terms(*at));
+            let opposite = self.amounts[*at] == -self.amounts[leg];
+            opposite & close && (self.groups)(*at) == (self.groups)(leg)
         };
         places.into_iter().find(fits)
     }
 
     /// Whether a leg of a block may fit: first by the amounts alone, then by days and coupons.
     #[inline(always)]
-    fn may_fit(&self, from: usize, wanted: i32, leg: Row) -> bool {
-        let block = from..from + BLOCK;
+    fn may_fit(&self, from: usize, leg: usize) -> bool {
+        let (block, wanted) = (from..from + BLOCK, -self.amounts[leg]);
         let amounts = self.amounts[block.clone()].iter();
         if !amounts.fold(false, |any, own| any | (*own == wanted)) {
             return false;
         }
-        let days = self.days[block.clone()].iter();
+        let (own, days) = (self.terms(leg), self.days[block.clone()].iter());
         let terms = days.zip(&self.coupons[block]);
         terms.fold(false, |any, (days, coupon)| {
-            any | close(leg, *days, *coupon)
+            any | close(own, [*days, *coupon])
         })
     }
 
     /// The first leg after a place that fits the one there, block by block.
     #[inline(always)]
     fn partner(&self, at: usize) -> Option<usize> {
-        let (leg, wanted) = (self.row(at), -self.amounts[at]);
         let mut from = at + 1;
         while from + BLOCK <= self.count {
-            if self.may_fit(from, wanted, leg) {
-                if let Some(found) = self.within(from..from + BLOCK, wanted, leg) {
+            if self.may_fit(from, at) {
+                if let Some(found) = self.within(from..from + BLOCK, at) {
                     return Some(found);
                 }
             }
             from += BLOCK;
         }
-        self.within(from..self.count, wanted, leg)
+        self.within(from..self.count, at)
     }
 
     /// Takes the legs that fit away, in pairs, and gives how many pairs there are.
     #[inline(always)]
-    fn pair_off(&mut self) -> usize {
+    pub fn pair_off(&mut self) -> usize {
         let mut pairs = 0;
         for at in 0..self.count {
             if self.amounts[at] == 0 {
@@ -102,15 +110,15 @@ impl<const N: usize> Legs<'_, N> {
         }
         pairs
     }
+}
 
-    /// Copies the rows that are left: all but legs that were taken away.
-    #[inline(always)]
-    fn copy(&self, to: &mut std::slice::ChunksExactMut<u8>) {
-        let rows = self.rows.chunks_exact(16).zip(&self.amounts[..self.count]);
-        for (row, amount) in rows {
-            if usize::from(row[1]) != LEG || *amount != 0 {
-                to.next().expect("room for each row").copy_from_slice(row);
-            }
+/// Copies the rows that are left: all but legs that were taken away.
+#[inline(always)]
+fn copy(rows: &[u8], amounts: &[i32], to: &mut std::slice::ChunksExactMut<u8>) {
+    for (row, amount) in rows.chunks_exact(16).zip(amounts) {
+        let leg = Row::decode(row.try_into().expect("16 bytes")).is_leg();
+        if !leg || *amount != 0 {
+            to.next().expect("room for each row").copy_from_slice(row);
         }
     }
 }
@@ -119,14 +127,9 @@ impl<const N: usize> Legs<'_, N> {
 /// has a loop of its own, with its limits in it.
 #[inline(always)]
 fn within<const N: usize>(book: &Book, out: &mut [u8]) -> Result<usize, Bad> {
-    let mut legs = Legs {
-        rows: book.bodies[0],
-        amounts: [0; N],
-        days: [0; N],
-        coupons: [0; N],
-        count: 0,
-    };
-    book.each(0, |row| legs.push(row))?;
+    let rows = book.bodies[0];
+    let mut legs = Legs::<_, N>::new(|at| usize::from(rows[16 * at]));
+    book.each(0, |row| legs.push(row, row.net()))?;
     book.each(1, |_| ())?;
     book.each(2, |_| ())?;
     book.each(3, |_| ())?;
@@ -135,7 +138,11 @@ fn within<const N: usize>(book: &Book, out: &mut [u8]) -> Result<usize, Bad> {
     let out = out.get_mut(..length).ok_or(Bad { number: 12, row: 0 })?;
     let (head, body) = out.split_at_mut(8);
     let (interest, mut rest) = body.split_at_mut(16 * (legs.count - 2 * pairs));
-    legs.copy(&mut interest.chunks_exact_mut(16));
+    copy(
+        rows,
+        &legs.amounts[..legs.count],
+        &mut interest.chunks_exact_mut(16),
+    );
     let counts = [
         legs.count - 2 * pairs,
         book.counts[1],

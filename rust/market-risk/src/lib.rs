@@ -21,6 +21,7 @@
 //! calls with the results of the C interface, entry by entry.
 
 mod net;
+mod net_and_offset;
 mod offset;
 pub mod raw;
 mod refusal;
@@ -28,6 +29,7 @@ mod small_bank;
 mod table;
 
 pub use net::{net, netted, Netted};
+pub use net_and_offset::{net_and_offset, net_and_offset_book};
 pub use offset::{offset, offset_book};
 pub use refusal::Refusal;
 pub use small_bank::{small_bank, SmallBank};

@@ -2,15 +2,26 @@
 
 use crate::{raw, Refusal};
 
-/// What netting a book came to.
+/// What netting a book came to, with offsetting after it or without.
 #[derive(Clone, Copy, Debug, Default, PartialEq, Eq)]
 pub struct Netted {
-    /// The length of the netted book.
+    /// The length of the book that is written.
     pub length: usize,
     /// How often the issue numbers of two rows were compared: in each class each row that has one,
     /// with the first rows of the issues before it, in order, up to the one of its own issue. Of a
     /// book of n rows at most n(n - 1)/2.
     pub comparisons: u64,
+}
+
+impl Netted {
+    /// What the entries of a result say.
+    pub(crate) fn of(result: &[u64; 5]) -> Result<Netted, Refusal> {
+        Refusal::of(result)?;
+        Ok(Netted {
+            length: result[3] as usize,
+            comparisons: result[4],
+        })
+    }
 }
 
 /// Writes the netted book to the front of `out` and gives its length, and how many comparisons it
@@ -37,11 +48,7 @@ pub struct Netted {
 pub fn net(book: &[u8], out: &mut [u8]) -> Result<Netted, Refusal> {
     let mut result = [0; 5];
     raw::net(book, out, &mut result);
-    Refusal::of(&result)?;
-    Ok(Netted {
-        length: result[3] as usize,
-        comparisons: result[4],
-    })
+    Netted::of(&result)
 }
 
 /// The netted book, in a buffer of its own.

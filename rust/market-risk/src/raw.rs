@@ -54,6 +54,13 @@ mod c {
             out_len: usize,
             result: *mut u64,
         );
+        pub fn market_risk_net_and_offset(
+            book: *const u8,
+            len: usize,
+            out: *mut u8,
+            out_len: usize,
+            result: *mut u64,
+        );
     }
 }
 
@@ -147,6 +154,20 @@ pub fn offset(book: &[u8], out: &mut [u8], result: &mut [u64; 4]) {
     // SAFETY: as in `net`.
     unsafe {
         c::market_risk_offset(
+            book.as_ptr(),
+            book.len(),
+            out.as_mut_ptr(),
+            out.len(),
+            result.as_mut_ptr(),
+        )
+    }
+}
+
+/// Number, row, book; the length of the written book at the front of `out`; how many comparisons.
+pub fn net_and_offset(book: &[u8], out: &mut [u8], result: &mut [u64; 5]) {
+    // SAFETY: as in `net`.
+    unsafe {
+        c::market_risk_net_and_offset(
             book.as_ptr(),
             book.len(),
             out.as_mut_ptr(),

@@ -155,7 +155,7 @@ fn every_entry_is_written() {
     let (mut check, mut charge) = ([marked; 3], [marked; 75]);
     let (mut join, mut net, mut offset) = ([marked; 4], [marked; 5], [marked; 4]);
     let (mut interest, mut commodity) = ([marked; 13], [marked; 7]);
-    let mut small_bank = [marked; 6];
+    let (mut small_bank, mut both) = ([marked; 6], [marked; 5]);
     let table = Table::amendment();
     for book in [&[0; 8][..], &[]] {
         raw::check(book, &mut check);
@@ -166,6 +166,7 @@ fn every_entry_is_written() {
         raw::join(book, &[0; 8], &mut [0; 8], &mut join);
         raw::net(book, &mut [0; 8], &mut net);
         raw::offset(book, &mut [0; 8], &mut offset);
+        raw::net_and_offset(book, &mut [0; 8], &mut both);
         let results = [
             &mut check[..],
             &mut charge,
@@ -175,6 +176,7 @@ fn every_entry_is_written() {
             &mut join,
             &mut net,
             &mut offset,
+            &mut both,
         ];
         for out in results {
             assert!(!out.contains(&marked));

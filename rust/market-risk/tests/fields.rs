@@ -1,8 +1,9 @@
 //! Each named field against its entry of the C interface, on books whose entries differ.
 //! Catches two fields that are exchanged, and one that is read from another's entry.
 
-use market_risk::{charge, commodity_ladder, interest_ladder, join, joined, net, netted, offset};
-use market_risk::{offset_book, raw, small_bank, Refusal, Table};
+use market_risk::{charge, commodity_ladder, interest_ladder, join, joined, net, net_and_offset};
+use market_risk::{net_and_offset_book, netted, offset, offset_book, raw, small_bank};
+use market_risk::{Refusal, Table};
 
 /// A row of 16 bytes with one signed amount: long above zero, short below.
 fn row(group: u8, kind: u8, days: u16, coupon: u16, net: i32) -> [u8; 16] {
@@ -260,4 +261,31 @@ fn offsetting_and_its_refusals() {
     let [number, row, book, _] = entries;
     assert_eq!(offset_book(&bad), Err(Refusal { number, row, book }));
     assert_eq!(offset(&bad, &mut out), Err(Refusal { number, row, book }));
+}
+
+#[test]
+fn both_in_one_call_and_their_refusals() {
+    // Rows 1 and 3, issue 5, are short 10 together and go with row 0; row 2 stays.
+    let mut rows =
+        [(1080, 10), (1090, -6), (270, 3), (1090, -4)].map(|(days, net)| row(7, 1, days, 800, net));
+    (rows[1][6], rows[3][6]) = (5, 5);
+    let whole = book([&rows, &[], &[], &[]]);
+    let expected = book([&rows[2..3], &[], &[], &[]]);
+    let (mut out, mut entries) = (vec![9; 30], [0; 5]);
+    raw::net_and_offset(&whole, &mut out, &mut entries);
+    assert_eq!(entries, [0, 0, 0, 8 + 16, 1]);
+    assert_eq!(out, [&expected[..], &[9; 6]].concat());
+    let done = net_and_offset(&whole, &mut out).unwrap();
+    let fields = vec![done.length as u64, done.comparisons];
+    hold(&[(entries.to_vec(), fields)]);
+    assert_eq!(net_and_offset_book(&whole), Ok(expected));
+    // Number and row differ: row 3 is of another currency.
+    rows[3][0] = 8;
+    let bad = book([&rows, &[], &[], &[]]);
+    raw::net_and_offset(&bad, &mut out, &mut entries);
+    assert_eq!(entries, [13, 3, 0, 0, 0]);
+    let [number, row, book, ..] = entries;
+    let refusal = Refusal { number, row, book };
+    assert_eq!(net_and_offset_book(&bad), Err(refusal));
+    assert_eq!(net_and_offset(&bad, &mut out), Err(refusal));
 }

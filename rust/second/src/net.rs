@@ -6,8 +6,8 @@ use crate::comparisons::comparisons;
 use crate::written::{file, write};
 use std::collections::HashMap;
 
-/// What netting gives: the refusal, or the length of the netted book and how many comparisons it
-/// takes.
+/// What netting gives, with offsetting after it or without: the refusal, or the length of the book
+/// that is written and how many comparisons netting takes.
 #[derive(Clone, Copy, Debug, Default, PartialEq, Eq)]
 pub struct Netted {
     pub refusal: Refusal,
@@ -120,7 +120,12 @@ pub fn netted(book: &[u8]) -> Result<Vec<u8>, Refusal> {
 
 /// Writes the netted book to the front of `out`; the bytes past it keep their values.
 pub fn net(book: &[u8], out: &mut [u8]) -> Netted {
-    match netted(book).and_then(|bytes| write(&bytes, out)) {
+    outcome(book, netted(book), out)
+}
+
+/// Writes what became of a book, if anything did, and counts the comparisons of netting it.
+pub fn outcome(book: &[u8], left: Result<Vec<u8>, Refusal>, out: &mut [u8]) -> Netted {
+    match left.and_then(|bytes| write(&bytes, out)) {
         Err(refusal) => Netted {
             refusal,
             ..Netted::default()

@@ -1,8 +1,8 @@
-//! The nine calls with the results of the C interface, by whichever calculation.
+//! The ten calls with the results of the C interface, by whichever calculation.
 
 use market_risk::raw;
 
-/// A calculation that answers all nine calls, writing every entry of each result.
+/// A calculation that answers all ten calls, writing every entry of each result.
 pub trait Calls {
     /// What the calculation is called in a message. No two have the same name.
     fn name(&self) -> &'static str;
@@ -23,6 +23,8 @@ pub trait Calls {
     fn net(&self, book: &[u8], out: &mut [u8], result: &mut [u64; 5]);
     /// Number, row, book; length.
     fn offset(&self, book: &[u8], out: &mut [u8], result: &mut [u64; 4]);
+    /// Number, row, book; length; comparisons.
+    fn net_and_offset(&self, book: &[u8], out: &mut [u8], result: &mut [u64; 5]);
     /// Document 01's table.
     fn table(&self, out: &mut [u8; 36]);
 }
@@ -57,6 +59,9 @@ impl Calls for Proved {
     }
     fn offset(&self, book: &[u8], out: &mut [u8], result: &mut [u64; 4]) {
         raw::offset(book, out, result);
+    }
+    fn net_and_offset(&self, book: &[u8], out: &mut [u8], result: &mut [u64; 5]) {
+        raw::net_and_offset(book, out, result);
     }
     fn table(&self, out: &mut [u8; 36]) {
         raw::table(out);
@@ -101,6 +106,10 @@ impl Calls for Second {
 
     fn offset(&self, book: &[u8], out: &mut [u8], result: &mut [u64; 4]) {
         *result = second::offset(book, out).entries();
+    }
+
+    fn net_and_offset(&self, book: &[u8], out: &mut [u8], result: &mut [u64; 5]) {
+        *result = second::net_and_offset(book, out).entries();
     }
 
     fn table(&self, out: &mut [u8; 36]) {

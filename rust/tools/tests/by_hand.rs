@@ -24,7 +24,7 @@ fn parts(text: &str) -> [Vec<&str>; 3] {
 #[test]
 fn currencies_add_up_as_printed() {
     let ladders = ladders("currency");
-    assert_eq!(ladders.len(), 24);
+    assert_eq!(ladders.len(), 26);
     for (name, text) in ladders {
         let [bands, steps, lines] = parts(&text);
         let lines: Vec<Line> = lines.iter().map(|text| line(text)).collect();

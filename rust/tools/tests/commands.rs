@@ -32,7 +32,7 @@ fn help_for_all_and_each() {
 }
 
 /// What the report of each sample has, in whole currency units unless it is shown.
-const SAMPLES: [(&str, &str); 13] = [
+const SAMPLES: [(&str, &str); 15] = [
     ("equity", "0 0 8,800 4,800 0 0 13,600"),
     ("swap", "213,280 4,580,112.500 0 0 0 0 4,793,392.500"),
     ("keyed", "0 735 0 0 0 0 735"),
@@ -49,6 +49,8 @@ const SAMPLES: [(&str, &str); 13] = [
     ("netted", "960 1,071 2,400 2,400 0 0 6,831"),
     ("offsetting", "1,920 817 0 0 0 0 2,737"),
     ("offset", "1,920 812 0 0 0 0 2,732"),
+    ("order-shared", "0 875 0 0 0 0 875"),
+    ("order-together", "0 175 0 0 0 0 175"),
 ];
 
 #[test]
@@ -87,7 +89,7 @@ fn packed_samples_unpack_to_the_same_book() {
         assert_eq!(fs::read(&book).unwrap(), fs::read(&again).unwrap());
     }
     // The sorted samples come back letter by letter.
-    for name in ["swap", "floating", "netting", "offsetting"] {
+    for name in ["swap", "floating", "netting", "offsetting", "order-shared"] {
         let text = prints(&["unpack", &packed(name, "letters"), "-"]);
         assert_eq!(text, fs::read_to_string(sample(name)).unwrap());
     }
@@ -249,6 +251,7 @@ fn csv_text_is_told_from_a_book() {
         &["join", &csv, &book, &out],
         &["join", &book, &csv, &out],
         &["net", &csv, &out],
+        &["net", "--offset", &csv, &out],
         &["offset", &csv, &out],
     ] {
         let told = fails(1, words);

@@ -111,6 +111,7 @@ fn an_output_over_an_input_is_refused() {
         "join x.book y.book y.book",
         "join x.book x.book x.book",
         "net x.book x.book",
+        "net --offset x.book x.book",
         "offset x.book x.book",
         "table x.csv --out x.csv",
         "table soft.csv --out x.csv",

@@ -140,7 +140,7 @@ fn wrong_command_lines_and_files() {
     assert!(fails(2, &["net", &temporary("no-book"), &out]).contains("no-book: "));
     let help = prints(&["net", "--help"]);
     assert!(
-        help.starts_with("market-risk net BOOK OUT [--comparisons]\n"),
+        help.starts_with("market-risk net BOOK OUT [--offset [--pairs]] [--comparisons]\n"),
         "{help}"
     );
 }

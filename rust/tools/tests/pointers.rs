@@ -39,6 +39,13 @@ extern "C" {
         out_len: usize,
         result: *mut u64,
     );
+    fn market_risk_net_and_offset(
+        book: *const u8,
+        len: usize,
+        out: *mut u8,
+        out_len: usize,
+        result: *mut u64,
+    );
 }
 
 /// A result in which every entry is marked, with room for the longest.
@@ -69,7 +76,7 @@ fn refused_with(number: u64, calls: &[Call]) {
 #[test]
 fn null_with_length_0_is_a_file_of_no_bytes() {
     let (table, length) = (TABLE.as_ptr(), TABLE.len());
-    let calls: [Call; 7] = [
+    let calls: [Call; 8] = [
         // SAFETY, here and below: the header allows null with length 0, and every result
         // has room for its entries.
         (3, &|out| unsafe { market_risk_check(null(), 0, out) }),
@@ -88,6 +95,9 @@ fn null_with_length_0_is_a_file_of_no_bytes() {
         }),
         (4, &|out| unsafe {
             market_risk_offset(null(), 0, null_mut(), 0, out)
+        }),
+        (5, &|out| unsafe {
+            market_risk_net_and_offset(null(), 0, null_mut(), 0, out)
         }),
     ];
     refused_with(1, &calls);
@@ -128,16 +138,19 @@ fn null_books_and_a_null_output_are_joined() {
     assert_eq!(join(Some(&EMPTY), Some(&EMPTY)), [12, 0, 0, 0]);
 }
 
-/// Catches netting or offsetting that writes to a null output, which has no room for a book without
-/// rows.
+/// Catches netting or offsetting, or both, that write to a null output, which has no room for a book
+/// without rows.
 #[test]
 fn a_null_output_has_no_room() {
-    let calls: [Call; 2] = [
+    let calls: [Call; 3] = [
         (5, &|out| unsafe {
             market_risk_net(EMPTY.as_ptr(), EMPTY.len(), null_mut(), 0, out)
         }),
         (4, &|out| unsafe {
             market_risk_offset(EMPTY.as_ptr(), EMPTY.len(), null_mut(), 0, out)
+        }),
+        (5, &|out| unsafe {
+            market_risk_net_and_offset(EMPTY.as_ptr(), EMPTY.len(), null_mut(), 0, out)
         }),
     ];
     refused_with(12, &calls);

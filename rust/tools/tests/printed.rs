@@ -14,7 +14,7 @@ use stored::{all, names, samples, Print, Stored};
 fn every_print_is_stored_and_nothing_else() {
     let wanted: BTreeSet<String> = all().iter().map(Stored::name).collect();
     assert_eq!(names(&format!("{}/expected", samples()), ".txt"), wanted);
-    assert_eq!(wanted.len(), 59);
+    assert_eq!(wanted.len(), 63);
     assert_eq!(
         names(&samples(), ".table"),
         BTreeSet::from(["steps".into()])
@@ -41,7 +41,7 @@ fn every_line_of_the_stored_texts_is_calculated_again() {
 }
 
 /// The totals and charges, worked by hand in document 01 and in samples/README.md.
-const BY_HAND: [(&str, &str); 50] = [
+const BY_HAND: [(&str, &str); 54] = [
     ("empty.report", "0.000"),
     ("swap.report", "4,793,392.500"),
     ("swap.currency-7", "4,580,112.500"),
@@ -92,6 +92,10 @@ const BY_HAND: [(&str, &str); 50] = [
     ("offsetting.currency-7", "817.000"),
     ("offset.report", "2,732.000"),
     ("offset.currency-7", "812.000"),
+    ("order-shared.report", "875.000"),
+    ("order-shared.currency-7", "875.000"),
+    ("order-together.report", "175.000"),
+    ("order-together.currency-7", "175.000"),
 ];
 
 /// Catches a stored charge that both calculations would have wrong.

@@ -14,6 +14,9 @@ slice-aggregate-net c = simp length-take (omega arith)
 slice-aggregate-offset : tie.Need-slice-aggregate-offset
 slice-aggregate-offset c = simp length-take (omega arith)
 
+slice-aggregate-net-and-offset : tie.Need-slice-aggregate-net-and-offset
+slice-aggregate-net-and-offset c = simp length-take (omega arith)
+
 pub write-into-spec : {M : Type 1} → statement M
 write-into-spec =
     tie.close
@@ -28,6 +31,10 @@ write-into-spec =
     (λ c. search needs)
     slice-aggregate-offset
     (λ c κs. search needs)
+    (λ c. search needs)
+    slice-aggregate-net-and-offset
+    (λ c κs. search needs)
+    (λ c. search needs)
     (λ c. search needs)
     (λ c. search needs)
     (λ c. search needs))

@@ -63,6 +63,17 @@ pub fn compare_net(book: &[u8], room: usize) -> u64 {
     result[0]
 }
 
+/// Compares netting and then offsetting into so many bytes and gives its refusal's number.
+pub fn compare_both(book: &[u8], room: usize) -> u64 {
+    let (mut out, mut second_out) = (vec![0x55; room], vec![0x55; room]);
+    let mut result = [OLD; 5];
+    fast::net_and_offset(book, &mut out, &mut result);
+    let written = second::net_and_offset(book, &mut second_out);
+    assert_eq!(result, written.entries(), "{book:?}");
+    assert_eq!(out, second_out, "{book:?}");
+    result[0]
+}
+
 /// Compares offsetting into so many bytes and gives its refusal's number.
 pub fn compare_offset(book: &[u8], room: usize) -> u64 {
     let (mut out, mut second_out) = (vec![0x55; room], vec![0x55; room]);

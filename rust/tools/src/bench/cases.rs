@@ -1,6 +1,6 @@
 //! The books that are timed, and the tables that they are charged under.
 
-use super::{issues, legs};
+use super::{both, issues, legs};
 use books::generate::{row, Shape};
 use books::tables::Table;
 use books::{Book, Random, ROW_BYTES};
@@ -21,6 +21,8 @@ pub enum Whose {
     SmallBank,
     Net,
     Offset,
+    /// Netting and offsetting in one call.
+    Both,
     /// All the others.
     Others,
 }
@@ -138,7 +140,8 @@ pub fn cases() -> Vec<Case> {
     let accepted = sorts.map(|(name, rows, classes)| accepted(name, *rows, classes));
     let others = [refused(&[0, 1, 2, 3]), under_own_table()];
     let all = accepted.chain(others).chain(small_banks());
-    all.chain(issues::cases()).chain(legs::cases()).collect()
+    let written = issues::cases().into_iter().chain(legs::cases());
+    all.chain(written).chain(both::cases()).collect()
 }
 
 /// The cases of small banks.

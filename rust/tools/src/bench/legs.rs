@@ -8,7 +8,7 @@ use books::{Book, Random, Row};
 const NEAR: usize = 8;
 
 /// A leg with an amount, on either side, in any currency and at any days and coupon.
-fn leg(random: &mut Random, amount: u32) -> Row {
+pub fn leg(random: &mut Random, amount: u32) -> Row {
     let leg = Row {
         group: random.below(32) as u8,
         kind: LEG,
@@ -39,7 +39,7 @@ fn near_pairs(random: &mut Random, rows: usize) -> Vec<Row> {
 }
 
 /// Legs of different amounts.
-fn amounts_apart(random: &mut Random, rows: usize) -> Vec<Row> {
+pub fn amounts_apart(random: &mut Random, rows: usize) -> Vec<Row> {
     let amounts = amounts(random, rows).into_iter();
     amounts.map(|amount| leg(random, amount)).collect()
 }

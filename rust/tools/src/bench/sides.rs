@@ -34,7 +34,7 @@ impl Call {
 }
 
 /// The calls, in the order of the tables.
-pub const CALLS: [Call; 8] = [
+pub const CALLS: [Call; 9] = [
     Call {
         name: "check",
         takes_table: false,
@@ -82,6 +82,12 @@ pub const CALLS: [Call; 8] = [
         takes_table: false,
         whose: Whose::Offset,
         sides: offset,
+    },
+    Call {
+        name: "net and offset",
+        takes_table: false,
+        whose: Whose::Both,
+        sides: net_and_offset,
     },
 ];
 
@@ -181,6 +187,13 @@ fn offset(case: &Case) -> Sides<'_> {
     let second =
         |book: &[u8], out: &mut [u8], result: &mut [u64; 4]| Second.offset(book, out, result);
     written(case, second, raw::offset, fast::offset)
+}
+
+fn net_and_offset(case: &Case) -> Sides<'_> {
+    let second = |book: &[u8], out: &mut [u8], result: &mut [u64; 5]| {
+        Second.net_and_offset(book, out, result);
+    };
+    written(case, second, raw::net_and_offset, fast::net_and_offset)
 }
 
 /// The sides of a call on a book that writes another.

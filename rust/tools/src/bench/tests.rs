@@ -137,6 +137,9 @@ fn first<'a>(call: &Call, cases: &'a [Case]) -> &'a Case {
     taken.next().expect("each call has a case")
 }
 
+/// The calls that write a book, from two books and from one.
+const WRITES: [&str; 4] = ["join", "net", "offset", "net and offset"];
+
 /// Catches another call, or another's call, under a name: the compiler names what is run.
 #[test]
 fn each_name_times_its_own_call() {
@@ -149,6 +152,7 @@ fn each_name_times_its_own_call() {
         "join",
         "net",
         "offset",
+        "net_and_offset",
     ];
     let cases = cases();
     for (call, function) in CALLS.iter().zip(functions) {
@@ -156,13 +160,15 @@ fn each_name_times_its_own_call() {
         for side in (call.sides)(first(call, &cases)).unwrap() {
             let path = match side.name {
                 "proved" => format!("market_risk::raw::{function}"),
-                "Rust" if ["join", "net", "offset", "small_bank"].contains(&function) => {
+                "Rust" if WRITES.contains(&call.name) || function == "small_bank" => {
                     format!("fast::{function}::{function}")
                 }
                 "Rust" => format!("fast::{function}"),
                 "C" => format!("fast::expert::{function}"),
                 "words" => "market_risk::bench::floors::sum_words".to_string(),
-                _ if function == "net" => "market_risk::bench::floors::copy_book<5>".to_string(),
+                _ if function.starts_with("net") => {
+                    "market_risk::bench::floors::copy_book<5>".to_string()
+                }
                 _ if function == "offset" => "market_risk::bench::floors::copy_book<4>".to_string(),
                 _ => "market_risk::bench::floors::copy".to_string(),
             };
@@ -178,7 +184,7 @@ fn the_proved_library_comes_first() {
     for call in &CALLS {
         let sides = (call.sides)(first(call, &cases)).unwrap();
         let names: Vec<&str> = sides.iter().map(|side| side.name).collect();
-        let writes = ["join", "net", "offset"].contains(&call.name);
+        let writes = WRITES.contains(&call.name);
         let floor = if writes { "copy" } else { "words" };
         let named = names.iter().copied().filter(|name| *name != "C");
         assert!(named.eq(["proved", "Rust", floor]), "{names:?}");
@@ -209,7 +215,7 @@ fn the_small_bank_has_lines_of_its_own() {
         let books: Vec<&str> = table.lines.iter().map(|line| line.book).collect();
         let own = books.iter().filter(|book| **book == "fx and commodity");
         let small_bank = call.name == "small bank";
-        let alone = ["net", "offset"].contains(&call.name);
+        let alone = WRITES[1..].contains(&call.name);
         assert_eq!(own.count(), if small_bank { 3 } else { 0 }, "{books:?}");
         let others = !small_bank && !alone;
         assert_eq!(books.contains(&"all classes"), others, "{books:?}");
@@ -217,8 +223,46 @@ fn the_small_bank_has_lines_of_its_own() {
     }
 }
 
-/// Holds the lines of a call to those that it alone has.
-fn has_lines(name: &str, lines: &[(&str, usize)]) {
+/// The lines that calls on one book have which write another.
+const OWN_LINES: [(&str, &[(&str, usize)]); 3] = [
+    (
+        "net",
+        &[
+            ("no rows", 0),
+            ("1 issue", 40),
+            ("10 issues", 40),
+            ("40 issues", 40),
+            ("1 issue", 4_000),
+            ("60 issues", 4_000),
+            ("4,000 issues", 4_000),
+            ("60 issues, refused", 4_000),
+        ],
+    ),
+    (
+        "offset",
+        &[
+            ("no rows", 0),
+            ("near pairs", 40),
+            ("near pairs", 4_000),
+            ("amounts apart", 4_000),
+            ("one side", 4_000),
+            ("terms apart", 4_000),
+        ],
+    ),
+    (
+        "net and offset",
+        &[
+            ("no rows", 0),
+            ("10 issues in pairs", 40),
+            ("60 issues in pairs", 4_000),
+            ("4,000 issues, amounts apart", 4_000),
+        ],
+    ),
+];
+
+/// Catches lines of these calls that are missing, or that stand in another call's table.
+#[test]
+fn calls_that_write_have_lines_of_their_own() {
     let cases = cases();
     for call in &CALLS {
         let table = Table::new(call, &cases).unwrap();
@@ -227,38 +271,10 @@ fn has_lines(name: &str, lines: &[(&str, usize)]) {
             .iter()
             .map(|line| (line.book, line.rows))
             .collect();
-        assert_eq!(own == lines, call.name == name, "{}", call.name);
-        let shared = own.iter().any(|line| line.1 > 0 && lines.contains(line));
-        assert_eq!(shared, call.name == name, "{}", call.name);
+        for (name, lines) in OWN_LINES {
+            assert_eq!(own == lines, call.name == name, "{}", call.name);
+            let shared = own.iter().any(|line| line.1 > 0 && lines.contains(line));
+            assert_eq!(shared, call.name == name, "{}", call.name);
+        }
     }
-}
-
-/// Catches lines of netting that are missing, or that stand in another call's table.
-#[test]
-fn netting_has_lines_of_its_own() {
-    let lines = [
-        ("no rows", 0),
-        ("1 issue", 40),
-        ("10 issues", 40),
-        ("40 issues", 40),
-        ("1 issue", 4_000),
-        ("60 issues", 4_000),
-        ("4,000 issues", 4_000),
-        ("60 issues, refused", 4_000),
-    ];
-    has_lines("net", &lines);
-}
-
-/// The same of offsetting.
-#[test]
-fn offsetting_has_lines_of_its_own() {
-    let lines = [
-        ("no rows", 0),
-        ("near pairs", 40),
-        ("near pairs", 4_000),
-        ("amounts apart", 4_000),
-        ("one side", 4_000),
-        ("terms apart", 4_000),
-    ];
-    has_lines("offset", &lines);
 }

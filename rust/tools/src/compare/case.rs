@@ -1,4 +1,4 @@
-//! One random case: two books, a table, a group and the lengths of three outputs.
+//! One random case: two books, a table, a group and the lengths of four outputs.
 
 use super::e4::{add_e4, add_e4_issue};
 use books::damage::{damage, damage_note};
@@ -6,6 +6,7 @@ use books::generate::{book, interest_book, interest_rows, ladder_book, Shape};
 use books::issues::{many, spoil, Issues};
 use books::legs::Legs;
 use books::small::{slip_in, small_book};
+use books::split;
 use books::tables::random::{accepted, broken, nudged, of_wrong_length, WAYS};
 use books::{Random, ROW_BYTES};
 
@@ -24,6 +25,8 @@ pub struct Case {
     pub net_room: usize,
     /// The length of the output of offsetting it.
     pub offset_room: usize,
+    /// The length of the output of doing both.
+    pub both_room: usize,
     /// The seed of the order in which the sample of demand 3 puts rows.
     pub order: u64,
 }
@@ -75,6 +78,15 @@ fn room_of(random: &mut Random, book: &[u8], written: Result<Vec<u8>, second::Re
         Err(_) if random.once_in(3) => random.pick(&[0, 7, 8]),
         Err(_) => room(random, book.len()),
         Ok(written) => room(random, written.len()),
+    }
+}
+
+/// A length of the output of netting and then offsetting a book: every third time next to the netted
+/// book, which is not written.
+fn room_of_both(random: &mut Random, book: &[u8]) -> usize {
+    match second::netted(book) {
+        Ok(netted) if random.once_in(3) => room(random, netted.len()),
+        _ => room_of(random, book, second::net_and_offset_book(book)),
     }
 }
 
@@ -203,6 +215,24 @@ fn books_of_legs(random: &mut Random) -> [Vec<u8>; 2] {
     })
 }
 
+/// Two books of swap legs, some split over rows of one issue; every sixth has a row that is unlike
+/// its issue, and every tenth is damaged.
+fn books_of_split_legs(random: &mut Random) -> [Vec<u8>; 2] {
+    let most = if random.once_in(40) { 200 } else { 9 };
+    [0; 2].map(|_| {
+        let rows = random.below(most) as usize;
+        let mut book = split::book(random, rows);
+        if random.once_in(6) {
+            spoil(random, &mut book);
+        }
+        let mut bytes = book.encode().expect("few rows");
+        if random.once_in(10) {
+            damage(random, &mut bytes);
+        }
+        bytes
+    })
+}
+
 /// A table: mostly an accepted one, often document 01's; else with one condition broken by one,
 /// with one byte changed, or of a wrong length.
 fn table(random: &mut Random) -> Vec<u8> {
@@ -220,7 +250,7 @@ fn table(random: &mut Random) -> Vec<u8> {
 
 impl Case {
     /// The case with this number of a seed. Every fourth is about issues, every hundredth about
-    /// very many of them, and every eighth about swap legs.
+    /// very many of them, every eighth about swap legs, and every sixteenth about both.
     pub fn new(seed: u64, number: u64) -> Case {
         // The table has a stream of its own.
         let table = table(&mut Random::of_case(!seed, number));
@@ -229,6 +259,7 @@ impl Case {
             _ if number % 100 == 99 => books_of_many_issues(&mut random),
             _ if number % 4 == 3 => books_of_issues(&mut random, &table),
             _ if number % 8 == 5 => books_of_legs(&mut random),
+            _ if number % 16 == 9 => books_of_split_legs(&mut random),
             0 | 1 => books_of_currencies(&mut random, &table),
             2 | 3 => books_of_notes(&mut random),
             4 | 5 => books_of_one_group(&mut random),
@@ -241,6 +272,7 @@ impl Case {
             order: random.draw(),
             net_room: room_of(&mut random, &a, second::netted(&a)),
             offset_room: room_of(&mut random, &a, second::offset_book(&a)),
+            both_room: room_of_both(&mut random, &a),
             table,
             a,
             b,

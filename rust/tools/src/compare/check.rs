@@ -1,4 +1,4 @@
-//! All nine calls on one case, entry by entry and byte by byte.
+//! All ten calls on one case, entry by entry and byte by byte.
 
 use super::case::Case;
 use crate::calls::Calls;
@@ -95,6 +95,19 @@ fn offset(calculations: [&dyn Calls; 2], case: &Case) -> Option<String> {
     })
 }
 
+/// Nets and offsets the first book with both calculations.
+fn net_and_offset(calculations: [&dyn Calls; 2], case: &Case) -> Option<String> {
+    let room = case.both_room;
+    writing(
+        "net and offset",
+        calculations,
+        room,
+        |calls, out, result| {
+            calls.net_and_offset(&case.a, out, result);
+        },
+    )
+}
+
 /// Compares document 01's table by both calculations.
 fn table(library: &dyn Calls, other: &dyn Calls) -> Option<String> {
     let (mut ours, mut theirs) = ([0x5a; 36], [0xa5; 36]);
@@ -142,5 +155,6 @@ pub fn difference(library: &dyn Calls, other: &dyn Calls, case: &Case) -> Option
         .or_else(|| join(both, case))
         .or_else(|| net(both, case))
         .or_else(|| offset(both, case))
+        .or_else(|| net_and_offset(both, case))
         .or_else(|| table(library, other))
 }

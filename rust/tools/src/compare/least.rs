@@ -1,5 +1,6 @@
 //! What a run must have seen at least.
 
+use super::both::Both;
 use super::comparisons::Comparisons;
 use super::floating::Floating;
 use super::net_joins::NetJoins;
@@ -87,6 +88,15 @@ const LEAST: Tally = Tally {
         ],
         rooms: [1_900, 1_450, 620],
         costs: [275, 13],
+    },
+    both: Both {
+        sorts: [125, 27, 120, 19, 50],
+        refused: [
+            0, 28, 71, 335, 170, 220, 89, 126, 177, 79, 0, 0, 1_380, 700, 200, 200,
+        ],
+        hidden: [130, 16],
+        rooms: [1_600, 1_240, 540, 120],
+        costs: [35, 24],
     },
 };
 
@@ -186,6 +196,7 @@ mod tests {
         every_small_bank_has_a_minimum();
         every_net_has_a_minimum();
         every_offset_has_a_minimum();
+        both_have_a_minimum();
         for number in (1..=9).chain([15]) {
             let lacking = one_short(|tally| &mut tally.refused[number]);
             assert!(lacking[0].starts_with(&format!("books refused {number}: ")));
@@ -336,13 +347,40 @@ mod tests {
         }
     }
 
+    /// The same of netting and then offsetting.
+    fn both_have_a_minimum() {
+        let alone = |of: &dyn Fn(&mut Both) -> &mut u64, name: &str| {
+            let lacking = one_short(|tally| of(&mut tally.both));
+            assert_eq!(lacking.len(), 1, "{name}");
+            assert!(lacking[0].starts_with(name), "{lacking:?}");
+        };
+        for at in 0..LEAST.both.sorts.len() {
+            alone(&|both| &mut both.sorts[at], "books netted and offset ");
+        }
+        for at in 0..LEAST.both.rooms.len() {
+            alone(&|both| &mut both.rooms[at], "outputs of both ");
+        }
+        for (at, name) in ["cheaper", "dearer"].iter().enumerate() {
+            let name = format!("books netted and offset {name} than ");
+            alone(&|both| &mut both.costs[at], &name);
+        }
+        for (at, number) in [13, 14].iter().enumerate() {
+            let name = format!("both refused {number}, hidden ");
+            alone(&|both| &mut both.hidden[at], &name);
+        }
+        for number in (1..=9).chain(12..=15) {
+            let name = format!("both refused {number}: ");
+            alone(&|both| &mut both.refused[number], &name);
+        }
+    }
+
     /// Catches minimums that do not follow the count of the run.
     #[test]
     fn minimums_follow_the_count() {
         let nothing = Tally::default();
         assert_eq!(
             nothing.lacking(20_000).len(),
-            12 + 9 + 18 + 10 + 12 + 21 + 47 + 34
+            12 + 9 + 18 + 10 + 12 + 21 + 47 + 34 + 26
         );
         assert!(LEAST.lacking(20_100).len() > 10);
         let half = nothing.lacking(10_000);
@@ -350,7 +388,7 @@ mod tests {
         // Few cases may miss the rarest, and very few may miss anything.
         assert_eq!(
             nothing.lacking(9_999).len(),
-            12 + 9 + 18 + 10 + 11 + 20 + 42 + 32
+            12 + 9 + 18 + 10 + 11 + 20 + 42 + 32 + 24
         );
         assert_eq!(nothing.lacking(41), [""; 0]);
     }

@@ -195,6 +195,9 @@ impl Calls for Misread {
     fn offset(&self, book: &[u8], out: &mut [u8], result: &mut [u64; 4]) {
         Second.offset(book, out, result);
     }
+    fn net_and_offset(&self, book: &[u8], out: &mut [u8], result: &mut [u64; 5]) {
+        Second.net_and_offset(book, out, result);
+    }
     fn table(&self, out: &mut [u8; 36]) {
         Second.table(out);
     }

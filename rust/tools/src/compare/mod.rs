@@ -1,5 +1,9 @@
 //! `compare`: the proved library against the second calculation on random books.
 
+mod both;
+mod both_laws;
+#[cfg(test)]
+mod both_readings;
 mod case;
 mod check;
 mod comparisons;
@@ -18,6 +22,8 @@ mod least;
 mod mended;
 #[cfg(test)]
 mod misread;
+#[cfg(test)]
+mod misread_both;
 #[cfg(test)]
 mod misread_net;
 #[cfg(test)]
@@ -51,6 +57,8 @@ mod tally;
 #[cfg(test)]
 mod tests;
 #[cfg(test)]
+mod wrong_both;
+#[cfg(test)]
 mod wrong_counts;
 #[cfg(test)]
 mod wrong_ladders;
@@ -73,7 +81,7 @@ pub const COMMAND: Command = Command {
     help: "market-risk compare [--seed S] [--count N] [--first K]
 
 Makes N pairs of random and damaged books from seed S and holds the proved library to
-the second calculation: all nine calls, every entry of every result and every byte of
+the second calculation: all ten calls, every entry of every result and every byte of
 every output. Each pair has one table: document 01's, another that is accepted, or one that
 is refused. Demand 3 is sampled too: a reordered, mirrored, or reordered and mirrored book
 has the same report; a joined book takes as many rows as its two parts and, with at most
@@ -88,8 +96,10 @@ book is accepted, stays as it is when it is netted again, and costs at most what
 and with at most two zones used in each currency before netting, a netted join costs at most its
 two netted books together. Netting takes at most n(n - 1)/2 comparisons of n rows. A book that was
 offset is accepted, has all rows that are no swap legs in their order, no two rows that fit, and
-stays as it is when it is offset again. In every fourth pair rows share issue numbers, and every
-eighth is of swap legs.
+stays as it is when it is offset again. Netting and offsetting in one call leave what the two calls
+leave one after the other, and given that book once more the call changes nothing. In every fourth
+pair rows share issue numbers, every eighth is of swap legs, and every sixteenth of legs that share
+issue numbers.
 
 On a difference it prints the smallest books that it can find, in hex and as CSV, with the
 table next to document 01's, and stops with exit status 1. It also fails when the pairs
@@ -107,7 +117,10 @@ with 13 and 14 in each order, cheaper netted, joined and netted under the premis
 it, with as many comparisons as there can be, with none, with others in another order of the
 rows, and books that were offset, with legs that fit at each limit, with rows that miss by one
 thing alone, in chains, for less and for more, into outputs of each length and refused with each
-number, must come up in proportion to N.
+number, and books netted and offset, with more pairs and with fewer than before they were netted,
+for less and for more than in the other order, into outputs of each length, some too short
+for the netted book, refused with each number, and with 13 and 14 that the other order hides, must
+come up in proportion to N.
 
   --seed S    the seed, 1 if not given
   --count N   how many pairs, 20000 if not given

@@ -37,7 +37,7 @@ fn rows(book: &Book, once: &Book) -> Option<String> {
 }
 
 /// Two rows of a written book that fit.
-fn fitting(once: &Book) -> Option<String> {
+pub fn fitting(once: &Book) -> Option<String> {
     let rows = once.classes[0].iter().enumerate();
     let legs: Vec<(usize, &Row)> = rows.filter(|(_, row)| row.kind == LEG).collect();
     legs.iter().enumerate().find_map(|(at, (first, one))| {

@@ -30,7 +30,7 @@ fn show_table(bytes: &[u8]) -> String {
 impl fmt::Display for Case {
     fn fmt(&self, out: &mut fmt::Formatter) -> fmt::Result {
         let (group, room) = (self.group, self.room);
-        let (net, offset) = (self.net_room, self.offset_room);
+        let (net, offset, both) = (self.net_room, self.offset_room, self.both_room);
         let (a, b, table) = (
             show("A", &self.a),
             show("B", &self.b),
@@ -38,8 +38,8 @@ impl fmt::Display for Case {
         );
         write!(
             out,
-            "group {group}, outputs of {room} bytes to join, {net} to net and {offset} to offset\n\
-             {table}{a}{b}"
+            "group {group}, outputs of {room} bytes to join, {net} to net, {offset} to offset and {both} \
+             for both\n{table}{a}{b}"
         )
     }
 }

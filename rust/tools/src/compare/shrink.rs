@@ -19,7 +19,13 @@ fn room(room: usize, whole: &Written, cut: Written) -> usize {
     }
 }
 
-/// The case with a plainer group, with an output of no bytes, or with all rows in group 0.
+/// Makes an output just long enough, if it is longer.
+fn shorten(room: &mut usize, written: Written) {
+    *room = written.map_or(*room, |written| written.len().min(*room));
+}
+
+/// The case with a plainer group, with an output of no bytes or one that is just long enough, or with
+/// all rows in group 0.
 fn plainer(case: &Case) -> impl Iterator<Item = Case> + '_ {
     let with = |change: fn(&mut Case)| {
         let mut plain = case.clone();
@@ -31,6 +37,10 @@ fn plainer(case: &Case) -> impl Iterator<Item = Case> + '_ {
         with(|case| case.room = 0),
         with(|case| case.net_room = 0),
         with(|case| case.offset_room = 0),
+        with(|case| case.both_room = 0),
+        with(|case| shorten(&mut case.net_room, second::netted(&case.a))),
+        with(|case| shorten(&mut case.offset_room, second::offset_book(&case.a))),
+        with(|case| shorten(&mut case.both_room, second::net_and_offset_book(&case.a))),
         // A ladder's own rows leave their group with it.
         with(|case| {
             case.group = 0;
@@ -49,10 +59,12 @@ fn smaller(case: &Case) -> impl Iterator<Item = Case> + '_ {
         ..case.clone()
     });
     let (netted, offset) = (second::netted(&case.a), second::offset_book(&case.a));
+    let both = second::net_and_offset_book(&case.a);
     let of_a = cuts(&case.a).map(move |a| Case {
         room: case.room.saturating_sub(less(&case.a, &a)),
         net_room: room(case.net_room, &netted, second::netted(&a)),
         offset_room: room(case.offset_room, &offset, second::offset_book(&a)),
+        both_room: room(case.both_room, &both, second::net_and_offset_book(&a)),
         a,
         ..case.clone()
     });
@@ -106,6 +118,7 @@ mod tests {
             room: 500,
             net_room: 500,
             offset_room: 500,
+            both_room: 500,
             order: 1,
         }
     }
@@ -123,8 +136,8 @@ mod tests {
         assert_eq!(book.rows(), 2);
         assert_eq!(book.classes[3], [plain; 2]);
         let left = (smallest.b.len(), smallest.group, smallest.room);
-        let outputs = [smallest.net_room, smallest.offset_room];
-        assert_eq!((left, outputs), ((0, 0, 0), [0; 2]));
+        let outputs = [smallest.net_room, smallest.offset_room, smallest.both_room];
+        assert_eq!((left, outputs), ((0, 0, 0), [0; 3]));
         assert_eq!(smallest.table, second::table());
     }
 

@@ -8,7 +8,7 @@ use crate::cli::{Args, Failure};
 use books::legs::LEG;
 use books::Book;
 
-/// The nine calls.
+/// The ten calls.
 #[derive(Clone, Copy, Debug, PartialEq)]
 enum Call {
     Check,
@@ -19,10 +19,11 @@ enum Call {
     Join,
     Net,
     Offset,
+    NetAndOffset,
     Table,
 }
 
-const CALLS: [Call; 9] = [
+const CALLS: [Call; 10] = [
     Call::Check,
     Call::Charge,
     Call::InterestLadder,
@@ -31,6 +32,7 @@ const CALLS: [Call; 9] = [
     Call::Join,
     Call::Net,
     Call::Offset,
+    Call::NetAndOffset,
     Call::Table,
 ];
 
@@ -100,6 +102,11 @@ impl Calls for StandIn<'_> {
     fn offset(&self, book: &[u8], out: &mut [u8], result: &mut [u64; 4]) {
         self.write(Call::Offset, out, result, |out, result| {
             Second.offset(book, out, result);
+        });
+    }
+    fn net_and_offset(&self, book: &[u8], out: &mut [u8], result: &mut [u64; 5]) {
+        self.write(Call::NetAndOffset, out, result, |out, result| {
+            Second.net_and_offset(book, out, result);
         });
     }
     fn table(&self, out: &mut [u8; 36]) {
@@ -178,6 +185,7 @@ fn a_run_that_has_seen_too_little_fails() {
         room: 8,
         net_room: 8,
         offset_room: 8,
+        both_room: 8,
         order: 0,
     };
     let message = failure(&empty);
@@ -197,6 +205,7 @@ fn a_run_that_has_seen_too_little_fails() {
     assert!(message.contains("\ncomparisons as many as there can be: 0 where"));
     assert!(message.contains("\nbooks with legs that fit 7 days apart: 0 where"));
     assert!(message.contains("\nbooks with rows that miss by the 31st day: 0 where"));
+    assert!(message.contains("\nbooks netted and offset with an issue and a pair: 0 where"));
     assert!(message.contains("\ntables refused 18: 0 where"));
     assert!(message.contains("\ntables refused for 1-3 above 100 alone: 0 where"));
     assert!(!message.contains("books accepted: "), "{message}");
@@ -333,11 +342,11 @@ fn a_run_without_notes_fails() {
         |line: &&String| line.contains("floating rates") || line.contains("refused 15");
     assert_eq!(
         lacking.iter().filter(about_notes).count(),
-        11,
+        12,
         "{lacking:?}"
     );
     assert!(lacking.iter().all(|line| line.contains(": 0 where")));
-    assert_eq!(lacking.len(), 11, "{lacking:?}");
+    assert_eq!(lacking.len(), 12, "{lacking:?}");
 }
 
 /// Catches a run in which every first book has interest or equity rows: no figure of a small bank
@@ -370,9 +379,12 @@ fn a_run_without_issues_fails() {
     let lacking = lacking(without_issues);
     let none = lacking.iter().filter(|line| line.contains(": 0 where"));
     assert_eq!(none.count(), lacking.len(), "{lacking:?}");
-    let about = |line: &&String| line.contains("net") || line.starts_with("comparisons ");
-    assert_eq!(lacking.iter().filter(about).count(), 15, "{lacking:?}");
-    assert_eq!(lacking.len(), 15, "{lacking:?}");
+    let about = |line: &&String| {
+        let begins = |word: &str| line.starts_with(word);
+        line.contains("net") || begins("comparisons ") || begins("both refused 1")
+    };
+    assert_eq!(lacking.iter().filter(about).count(), 21, "{lacking:?}");
+    assert_eq!(lacking.len(), 21, "{lacking:?}");
 }
 
 /// Catches a run without swap legs: nothing was offset, no two rows lay at a limit or past it, and
@@ -382,10 +394,10 @@ fn a_run_without_legs_fails() {
     let lacking = lacking(without_legs);
     assert!(lacking.iter().all(|line| line.contains(": 0 where")));
     let about = |line: &&String| {
-        ["legs", "miss", "offset"]
+        ["legs", "miss", "offset", "both"]
             .iter()
             .any(|word| line.contains(word))
     };
-    assert_eq!(lacking.iter().filter(about).count(), 11, "{lacking:?}");
-    assert_eq!(lacking.len(), 11, "{lacking:?}");
+    assert_eq!(lacking.iter().filter(about).count(), 16, "{lacking:?}");
+    assert_eq!(lacking.len(), 16, "{lacking:?}");
 }

@@ -157,6 +157,7 @@ mod tests {
             group,
             room: 0,
             net_room: 0,
+            both_room: 0,
             offset_room: 0,
             order: 0,
         });

@@ -1,5 +1,6 @@
 //! What a run has seen, so that it can be told from one that compared nothing.
 
+use super::both::Both;
 use super::case::Case;
 use super::comparisons::Comparisons;
 use super::floating::Floating;
@@ -39,6 +40,7 @@ pub struct Tally {
     /// Of books and joins under an accepted table.
     pub net_joins: NetJoins,
     pub offsets: Offsets,
+    pub both: Both,
 }
 
 impl Tally {
@@ -56,6 +58,7 @@ impl Tally {
         self.nets.count(case);
         self.comparisons.count(case);
         self.offsets.count(case);
+        self.both.count(case);
         self.ladder_refused += u64::from(case.group > 31);
         self.tables.count(case);
         let charged = second::read_table(&case.table).is_ok();
@@ -113,6 +116,7 @@ impl Tally {
         counts.extend(self.comparisons.named());
         counts.extend(self.net_joins.named());
         counts.extend(self.offsets.named());
+        counts.extend(self.both.named());
         counts.extend(numbered("books refused", &self.refused));
         counts.extend(numbered("joins refused", &self.joins));
         counts
@@ -149,6 +153,7 @@ impl fmt::Display for Tally {
         writeln!(out, "{}", self.comparisons)?;
         writeln!(out, "{}", self.net_joins)?;
         writeln!(out, "{}", self.offsets)?;
+        writeln!(out, "{}", self.both)?;
         writeln!(
             out,
             "joins refused {not_joined}, for the second book {}",
@@ -184,6 +189,7 @@ mod tests {
             room: 1_000,
             net_room: 1_000,
             offset_room: 1_000,
+            both_room: 1_000,
             order: 0,
         });
         tally

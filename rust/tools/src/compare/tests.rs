@@ -156,7 +156,9 @@ fn a_difference_is_shown_with_a_small_book() {
         "pair {number} of seed 1 differs\ncommodity ladder by a faulty calculation and by "
     )));
     assert!(
-        text.contains(" to net and 0 to offset\ndocument 01's table\nbook A, 24 bytes: "),
+        text.contains(
+            " to net, 0 to offset and 0 for both\ndocument 01's table\nbook A, 24 bytes: "
+        ),
         "{text}"
     );
     assert!(text.contains("\ncommodity,0,none,0,0,0,"), "{text}");
@@ -227,6 +229,7 @@ fn case(a: &[Row], b: &[Row]) -> Case {
         room: 1_000,
         net_room: 1_000,
         offset_room: 1_000,
+        both_room: 1_000,
         order: 0,
     }
 }

@@ -22,7 +22,7 @@ fn wrong_counts_are_shown_by_few_rows() {
         (Count::AcrossClasses, "1 and 0", 2),
         (Count::InterestAlone, "0 and 1", 2),
         (Count::ZeroForgotten, "1 and 2", 3),
-        (Count::LeftAlone, "0 and 2", 3),
+        (Count::LeftAlone, "0 and 1", 2),
         (Count::Most, "1 and 0", 2),
         (Count::KeptOnTwelve, "1 and 0", 2),
         (Count::KeptOnIssues, "1 and 0", 2),

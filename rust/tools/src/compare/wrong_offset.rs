@@ -11,9 +11,12 @@ const OFFSET: &str = "offset by a wrong reading and by the second calculation: e
 const BYTE: &str = "offset: output byte ";
 const CLAIM: &str = "offsetting: ";
 
-/// What is told of a pair that goes and should not, with room for it and without; of one that stays
-/// and should not; of a book that does not stay; and of rows that are no legs.
+/// What is told of a pair that goes and should not, of one that takes a third leg with it, of a book
+/// that seems too long, and of a pair that goes where there is no room for it; of one that stays and
+/// should not; of a book that does not stay; and of rows that are no legs.
 const GOES: &str = "3 is 8 and 40\n";
+const ALL_GO: &str = "3 is 8 and 24\n";
+const TOO_LONG: &str = "0 is 12 and 0, entry 3 is 0 and 8\n";
 const GOES_UNASKED: &str = "0 is 0 and 12, entry 3 is 8 and 0\n";
 const STAYS: &str = "rows 0 and 1 of the written book fit\n";
 const CHANGES: &str = "offset again, the written book changes\n";
@@ -44,10 +47,10 @@ fn wrong_orders_are_shown_by_few_rows() {
     for (wrong, how, words, rows) in [
         (Wrong::Last, BYTE, "", 3),
         (Wrong::Nearest, BYTE, "", 3),
-        (Wrong::Backwards, OFFSET, "", 4),
-        (Wrong::OfferedAgain, OFFSET, GOES_UNASKED, 3),
-        (Wrong::TakesAgain, OFFSET, GOES_UNASKED, 3),
-        (Wrong::EarlierStays, CLAIM, STAYS, 3),
+        (Wrong::Backwards, BYTE, "", 3),
+        (Wrong::OfferedAgain, OFFSET, ALL_GO, 3),
+        (Wrong::TakesAgain, OFFSET, ALL_GO, 3),
+        (Wrong::EarlierStays, OFFSET, TOO_LONG, 2),
         (Wrong::OthersMoved, BYTE, "9 is 1 by ", 2),
         (Wrong::ClassesTurned, CLAIM, OTHERS, 2),
         (Wrong::LegLost, CLAIM, CHANGES, 2),
@@ -101,18 +104,8 @@ fn wrong_outputs_are_shown_by_few_rows() {
         (Wrong::Cleared, BYTE, "8 is 0 by ", 0),
         (Wrong::PastTheEnd, BYTE, "8 is ", 0),
         (Wrong::Twelve(1), OFFSET, GOES_UNASKED, 0),
-        (
-            Wrong::Twelve(-1),
-            OFFSET,
-            "0 is 12 and 0, entry 3 is 0 and 8\n",
-            0,
-        ),
-        (
-            Wrong::TwelveOfBook,
-            OFFSET,
-            "0 is 12 and 0, entry 3 is 0 and 8\n",
-            2,
-        ),
+        (Wrong::Twelve(-1), OFFSET, TOO_LONG, 0),
+        (Wrong::TwelveOfBook, OFFSET, TOO_LONG, 2),
         (Wrong::TwelveFirst, OFFSET, "0 is 12 and ", 1),
         (Wrong::LengthKept, OFFSET, "3 is 8 and 0\n", 0),
         (Wrong::RefusedWrites, BYTE, "0 is ", 0),

@@ -29,15 +29,29 @@ fn netted(rows: &[Row]) -> Option<Vec<Row>> {
     Some(kept)
 }
 
+/// The netted book of another that the library has netted; or why it cannot have.
+pub fn netted_book(book: &[u8]) -> Result<Book, String> {
+    let whole = Book::decode(book).ok_or("the library netted what is no book")?;
+    let classes = whole.classes.iter().map(|rows| netted(rows));
+    let netted: Option<Vec<Vec<Row>>> = classes.collect();
+    let classes = netted.ok_or("the library netted an issue that is too large")?;
+    Ok(Book {
+        classes: classes.try_into().expect("as many classes as before"),
+    })
+}
+
 /// Why a book cannot be the netted one of another.
 pub fn doubt(book: &[u8], library: &[u8]) -> Option<String> {
-    let Some((whole, own)) = Book::decode(book).zip(Book::decode(library)) else {
+    let Some(own) = Book::decode(library) else {
         return Some("the library's netted book is no book".into());
     };
-    (0..own.classes.len()).find_map(|class| match netted(&whole.classes[class]) {
-        Some(expected) => unlike("netted", class, &own.classes[class], &expected),
-        None => Some("the library netted an issue that is too large".into()),
-    })
+    match netted_book(book) {
+        Ok(expected) => {
+            let mut classes = (0..).zip(own.classes.iter().zip(&expected.classes));
+            classes.find_map(|(class, (own, expected))| unlike("netted", class, own, expected))
+        }
+        Err(why) => Some(why),
+    }
 }
 
 /// Why so many comparisons cannot be those of netting a book.
@@ -132,6 +146,8 @@ mod tests {
         assert_eq!(told(&rows[..2]), Some(few.into()));
         let none = "the library's netted book is no book";
         assert_eq!(doubt(&[0; 8], &[0; 9]), Some(none.into()));
+        let what = "the library netted what is no book";
+        assert_eq!(doubt(&[0; 9], &[0; 8]), Some(what.into()));
         let large = vec![row(5, u32::MAX, 0); 2];
         let why = "the library netted an issue that is too large";
         assert_eq!(doubt(&book(&large), &book(&large)), Some(why.into()));

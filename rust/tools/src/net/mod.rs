@@ -1,20 +1,22 @@
-//! `net`: the rows of one issue into one.
+//! `net`: the rows of one issue into one, and the swap legs of the netted rows offset.
 
 mod count;
 mod doubt;
 
-use crate::cli::{no, print, Args, Command, Outcome};
+use crate::cli::{no, print, usage, Args, Command, Failure, Outcome};
 use crate::files::{apart, input, read_book, write};
+use crate::offset::{pairs, pairs_line};
 use crate::report::explain;
 use crate::text::whole;
 use crate::written::apart_from_line;
 pub use count::bound;
-use doubt::{doubt, doubt_count};
+use doubt::{doubt, doubt_count, netted_book};
+use std::path::Path;
 
 pub const COMMAND: Command = Command {
     name: "net",
     brief: "a book with the rows of one issue made one",
-    help: "market-risk net BOOK OUT [--comparisons]
+    help: "market-risk net BOOK OUT [--offset [--pairs]] [--comparisons]
 
 Writes the netted book. Within a class the rows of one issue number become one row, in the
 place of the first, with their net on its side; an issue that nets to zero is left out. Rows
@@ -31,6 +33,12 @@ The netted book is the proved library's. Its rows are netted here once more, and
 fails, and writes nothing, if they are others, or if the library made another number of
 comparisons.
 
+  --offset        offset the swap legs of the netted rows too, in one call: write what
+                  market-risk offset would leave of the netted book. Issues come first, and the
+                  other order may leave other rows: docs/ORDER.md. The rows are netted and offset
+                  here once more, and nothing is written if another book is left
+  --pairs         with --offset, print how many pairs were left out, and how many of the netted
+                  rows are left. Not with an OUT that is standard output
   --comparisons   print how many comparisons the netting took, and the most that a book of so
                   many rows can take, n(n - 1)/2 of n rows. In each class each row that has an
                   issue number is compared with the first rows of the issues before it, in
@@ -38,17 +46,46 @@ comparisons.
                   output, where the netted book goes
 ",
     options: &[],
-    flags: &["--comparisons"],
+    flags: &["--offset", "--pairs", "--comparisons"],
     run,
 };
 
-/// The netted book and its comparisons, both held to the rows; or why there is none.
-fn netted(bytes: &[u8]) -> Result<(Vec<u8>, u64), String> {
-    let mut out = vec![0; bytes.len()];
-    let netted = market_risk::net(bytes, &mut out).map_err(|refusal| explain(bytes, &refusal))?;
-    out.truncate(netted.length);
-    let doubt = doubt(bytes, &out).or_else(|| doubt_count(bytes, netted.comparisons));
-    doubt.map_or(Ok((out, netted.comparisons)), Err)
+/// What the library has written, held to the rows.
+struct Written {
+    book: Vec<u8>,
+    comparisons: u64,
+    /// With `--offset`, how many rows there are when they are netted, and how many pairs are not left.
+    offset: Option<[usize; 2]>,
+}
+
+/// The netted rows and the pairs among them of which the library has left this book.
+fn offset_of(bytes: &[u8], left: &[u8]) -> Result<[usize; 2], String> {
+    let netted = netted_book(bytes)?;
+    let bytes = netted.encode().expect("no more rows than before");
+    Ok([netted.rows(), pairs(&bytes, left)?])
+}
+
+/// The netted book and its comparisons, with the legs offset where that is asked for; or why there
+/// is none.
+fn written(bytes: &[u8], offset: bool) -> Result<Written, String> {
+    let mut book = vec![0; bytes.len()];
+    let call = if offset {
+        market_risk::net_and_offset
+    } else {
+        market_risk::net
+    };
+    let done = call(bytes, &mut book).map_err(|refusal| explain(bytes, &refusal))?;
+    book.truncate(done.length);
+    let offset = match offset {
+        true => Some(offset_of(bytes, &book)?),
+        false => doubt(bytes, &book).map_or(Ok(None), Err)?,
+    };
+    doubt_count(bytes, done.comparisons).map_or(Ok(()), Err)?;
+    Ok(Written {
+        book,
+        comparisons: done.comparisons,
+        offset,
+    })
 }
 
 /// The line of the comparisons.
@@ -58,17 +95,31 @@ fn line(bytes: &[u8], comparisons: u64) -> String {
     format!("comparisons {made} of at most {most}\n")
 }
 
+/// Whether to offset, to print the pairs and to print the comparisons.
+fn wanted(args: &Args, to: &Path) -> Result<[bool; 3], Failure> {
+    let [offset, pairs, comparisons] =
+        ["--offset", "--pairs", "--comparisons"].map(|name| args.flag(name));
+    if pairs && !offset {
+        return Err(usage("net: --pairs is of --offset, which is not given"));
+    }
+    let book = if offset { "written" } else { "netted" };
+    apart_from_line(to, pairs.then_some("net: --pairs"), book)?;
+    apart_from_line(to, comparisons.then_some("net: --comparisons"), book)?;
+    Ok([offset, pairs, comparisons])
+}
+
 fn run(args: &Args) -> Outcome {
     let [from, to] = args.files()?;
-    let wanted = args.flag("--comparisons");
-    apart_from_line(to, wanted.then_some("net: --comparisons"), "netted")?;
+    let [offset, pairs, comparisons] = wanted(args, to)?;
     apart(to, &[from])?;
     let bytes = read_book(from)?;
-    let (netted, comparisons) =
-        netted(&bytes).map_err(|why| no(format!("{}: {why}", input(from))))?;
-    write(to, &netted)?;
-    match wanted {
-        true => print(&line(&bytes, comparisons)),
-        false => Ok(()),
+    let written = written(&bytes, offset).map_err(|why| no(format!("{}: {why}", input(from))))?;
+    write(to, &written.book)?;
+    if comparisons {
+        print(&line(&bytes, written.comparisons))?;
+    }
+    match written.offset {
+        Some([rows, count]) if pairs => print(&pairs_line(count, rows, "netted rows")),
+        _ => Ok(()),
     }
 }

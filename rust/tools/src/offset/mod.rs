@@ -7,8 +7,7 @@ use crate::files::{apart, input, read_book, write};
 use crate::report::explain;
 use crate::text::whole;
 use crate::written::apart_from_line;
-pub use doubt::fit;
-use doubt::pairs;
+pub use doubt::{fit, pairs};
 
 pub const COMMAND: Command = Command {
     name: "offset",
@@ -26,8 +25,9 @@ of one currency, with equal amounts on opposite sides, coupons at most 15 basis 
 
 All other rows stay, in order; issue numbers are not looked at. Keep the legs of one reference
 rate in a book of their own: the rows do not name it. What is left out depends on the order of
-the rows, and a charge may rise by it. The written book is a book like others: charge
-it with market-risk report, show it with market-risk unpack.
+the rows, and a charge may rise by it. Where legs carry issue numbers, net first, or do both with
+market-risk net --offset. The written book is a book like others: charge it with market-risk
+report, show it with market-risk unpack.
 
 Nothing is written when the book is refused. The written book is the proved library's. Its legs
 are offset here once more, and the command fails, and writes nothing, if another book is left.
@@ -47,11 +47,10 @@ fn offset(bytes: &[u8]) -> Result<(Vec<u8>, usize), String> {
     Ok((left, pairs))
 }
 
-/// The line of the pairs.
-fn line(bytes: &[u8], pairs: usize) -> String {
-    let rows = bytes.len().saturating_sub(8) / 16;
+/// The line of the pairs among so many rows, which are called so.
+pub fn pairs_line(pairs: usize, rows: usize, called: &str) -> String {
     let [pairs, left, rows] = [pairs, rows - 2 * pairs, rows].map(|count| whole(count as u64));
-    format!("pairs {pairs}, which leave {left} of {rows} rows\n")
+    format!("pairs {pairs}, which leave {left} of {rows} {called}\n")
 }
 
 fn run(args: &Args) -> Outcome {
@@ -63,7 +62,10 @@ fn run(args: &Args) -> Outcome {
     let (left, pairs) = offset(&bytes).map_err(|why| no(format!("{}: {why}", input(from))))?;
     write(to, &left)?;
     match wanted {
-        true => print(&line(&bytes, pairs)),
+        true => {
+            let rows = bytes.len().saturating_sub(8) / 16;
+            print(&pairs_line(pairs, rows, "rows"))
+        }
         false => Ok(()),
     }
 }

@@ -64,6 +64,10 @@ fn answer(by: &dyn Calls, case: &Case) -> (&'static str, Vec<u64>) {
             "offset",
             writing(*room, |out, result| by.offset(book, out, result)),
         ),
+        Call::NetAndOffset { room } => (
+            "net-and-offset",
+            writing(*room, |out, result| by.net_and_offset(book, out, result)),
+        ),
         Call::SmallBank => {
             by.small_bank(book, &mut small_bank);
             ("small-bank", small_bank.to_vec())
@@ -93,7 +97,8 @@ fn lines_by(by: &dyn Calls, cases: &[Case]) -> String {
 
 #[cfg(test)]
 mod tests {
-    use super::super::build::{call, charge_by, join, ladder_by, net, offset, row, small_bank};
+    use super::super::build::{call, charge_by, join, ladder_by, net, net_and_offset, offset};
+    use super::super::build::{row, small_bank};
     use super::*;
     use crate::calls::Proved;
 
@@ -175,6 +180,28 @@ mod tests {
         let [third, short] = [&third, &vec![0xa5; 23]].map(|out| checksum(out));
         let expected =
             format!("offset 0 0 0 24 {third}\noffset 12 0 0 0 {short}\noffset 1 0 0 0 0\n");
+        assert_eq!(lines(&cases), expected);
+    }
+
+    /// Netting and then offsetting: short 60 and 40 of issue 5, which took one comparison, go with
+    /// the leg of 100; what is left, and one byte past it.
+    #[test]
+    fn lines_of_both_have_every_figure() {
+        let bond = |days, issue, net| row(7, 1, days, 800, net).with_issue(issue);
+        let rows = [
+            bond(900, 0, 100),
+            bond(910, 5, -60),
+            bond(60, 0, 7),
+            bond(910, 5, -40),
+        ];
+        let book = super::super::build::only(0, &rows);
+        let cases = [25, 23].map(|room| net_and_offset(&book, room));
+        let left = [&[1, 0, 0, 0, 0, 0, 0, 0][..], &book[40..56], &[0xa5]].concat();
+        let [left, short] = [&left, &vec![0xa5; 23]].map(|out| checksum(out));
+        let expected = format!(
+            "net-and-offset 0 0 0 24 1 {left}\n\
+             net-and-offset 12 0 0 0 0 {short}\n"
+        );
         assert_eq!(lines(&cases), expected);
     }
 }

@@ -17,6 +17,7 @@ pub enum Call {
     SmallBank,
     Net { room: u32 },
     Offset { room: u32 },
+    NetAndOffset { room: u32 },
 }
 
 /// One stored call.
@@ -66,6 +67,12 @@ pub fn net(book: &[u8], room: usize) -> Case {
 pub fn offset(book: &[u8], room: usize) -> Case {
     let room = length(room);
     call(Call::Offset { room }, book)
+}
+
+/// Netting and then offsetting with so much room.
+pub fn net_and_offset(book: &[u8], room: usize) -> Case {
+    let room = length(room);
+    call(Call::NetAndOffset { room }, book)
 }
 
 /// A call that writes a book of so many bytes, into an output of every length that matters.

@@ -10,6 +10,9 @@ mod full;
 mod joins;
 mod ladders;
 mod loaded;
+mod net_and_offset;
+mod net_and_offset_faults;
+mod net_and_offset_orders;
 mod net_counts;
 mod net_faults;
 mod nets;
@@ -69,6 +72,8 @@ fn cases(seed: u64) -> Vec<Case> {
         net_counts::cases(),
         offsets::cases(seed),
         offset_faults::cases(),
+        net_and_offset::cases(seed),
+        net_and_offset_faults::cases(),
     ]
     .concat()
 }
@@ -125,7 +130,7 @@ mod tests {
         }));
         assert!(books.len() >= 300, "{} books", books.len());
         let [(_, stdin), (_, stdout)] = files(1);
-        assert!(stdin.len() < 480_000, "{} bytes", stdin.len());
+        assert!(stdin.len() < 510_000, "{} bytes", stdin.len());
         assert!(stdout.len() < 300_000, "{} bytes", stdout.len());
     }
 
@@ -158,10 +163,12 @@ mod tests {
             assert!(seen("small-bank", number), "small-bank {number}");
         }
         assert!(!seen("small-bank", 15));
-        for number in (0..=9).chain(12..=15) {
-            assert!(seen("net", number), "net {number}");
+        for call in ["net", "net-and-offset"] {
+            for number in (0..=9).chain(12..=15) {
+                assert!(seen(call, number), "{call} {number}");
+            }
+            assert!(!seen(call, 10) && !seen(call, 11));
         }
-        assert!(!seen("net", 10) && !seen("net", 11));
         for number in (0..=9).chain([12, 15]) {
             assert!(seen("offset", number), "offset {number}");
         }

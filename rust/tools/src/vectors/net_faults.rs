@@ -25,7 +25,7 @@ fn unlike(class: usize) -> Vec<Row> {
 }
 
 /// Books whose third or last row is unlike the first of its issue, beside rows of other classes.
-fn differing() -> Vec<Vec<u8>> {
+pub fn differing() -> Vec<Vec<u8>> {
     let mut books = Vec::new();
     for class in 0..4 {
         for other in unlike(class) {
@@ -50,7 +50,7 @@ fn differing() -> Vec<Vec<u8>> {
 
 /// Several issues that cannot be netted: the first differing row, the earliest issue, and all of
 /// 13 before any 14.
-fn several() -> Vec<Vec<u8>> {
+pub fn several() -> Vec<Vec<u8>> {
     let (one, other) = (
         |issue| bond(issue, 5),
         |issue| bond(issue, 5).with_days(270),
@@ -73,7 +73,7 @@ fn several() -> Vec<Vec<u8>> {
 
 /// Nets over the limit by one, by much and past 32 bits, long and short, at the first row of their
 /// issue.
-fn over() -> Vec<Vec<u8>> {
+pub fn over() -> Vec<Vec<u8>> {
     let mut books = Vec::new();
     for class in 0..4 {
         for side in [1, -1] {
@@ -92,7 +92,7 @@ fn over() -> Vec<Vec<u8>> {
 }
 
 /// A bad row of each class after issues that cannot be netted, and a broken note.
-fn before_issues() -> Vec<Vec<u8>> {
+pub fn before_issues() -> Vec<Vec<u8>> {
     let pair = [
         bond(1, MOST),
         bond(1, MOST),

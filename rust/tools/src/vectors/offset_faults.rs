@@ -32,7 +32,7 @@ fn bad_books() -> Vec<Vec<u8>> {
 
 /// Legs that are broken themselves and would else fit: past the last day, the last coupon and the
 /// last amount, on two sides, and of a currency that there is not.
-fn broken_legs() -> Vec<Vec<u8>> {
+pub fn broken_legs() -> Vec<Vec<u8>> {
     let [one, other] = pair();
     let pairs = [
         [one.with_days(36_000), other.with_days(36_001)],

@@ -59,12 +59,13 @@ impl Reader<'_> {
             let room = room as u32;
             return Some(call(Call::Join { other, room }, &book));
         }
-        if tag == 10 || tag == 11 {
+        if (10..=12).contains(&tag) {
             let (room, length) = (self.number(4) as u32, self.number(4));
             let book = self.book(length, runs);
             return Some(match tag {
                 10 => call(Call::Net { room }, &book),
-                _ => call(Call::Offset { room }, &book),
+                11 => call(Call::Offset { room }, &book),
+                _ => call(Call::NetAndOffset { room }, &book),
             });
         }
         let table = match tag {
@@ -124,8 +125,8 @@ fn thousands(number: usize) -> String {
 }
 
 /// What the page says of the random books and tables.
-fn randoms() -> [String; 6] {
-    use super::{loaded, nets, offsets, random, small_banks};
+fn randoms() -> [String; 7] {
+    use super::{loaded, net_and_offset, nets, offsets, random, small_banks};
     let (books, tables) = (loaded::BOOKS, loaded::TABLES);
     [
         format!("- {} random books of the seed, each damaged", random::BOOKS),
@@ -140,6 +141,10 @@ fn randoms() -> [String; 6] {
             nets::BOOKS
         ),
         format!("- {} random books of swap legs of the seed", offsets::BOOKS),
+        format!(
+            "- {} random books of legs that share issues of the seed",
+            net_and_offset::BOOKS
+        ),
     ]
 }
 

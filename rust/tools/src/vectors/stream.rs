@@ -80,6 +80,7 @@ fn record(case: &Case) -> Vec<u8> {
         Call::SmallBank => of_book(9, &[], 0, book),
         Call::Net { room } => of_writing(10, book, *room),
         Call::Offset { room } => of_writing(11, book, *room),
+        Call::NetAndOffset { room } => of_writing(12, book, *room),
     }
 }
 
@@ -92,7 +93,8 @@ pub fn encode(cases: &[Case]) -> Vec<u8> {
 
 #[cfg(test)]
 mod tests {
-    use super::super::build::{call, charge_by, ladder_by, net, offset, small_bank};
+    use super::super::build::small_bank;
+    use super::super::build::{call, charge_by, ladder_by, net, net_and_offset, offset};
     use super::super::cases;
     use super::super::page::read;
     use super::*;
@@ -112,7 +114,9 @@ mod tests {
                 Call::Join { other, room } => {
                     assert!(other.len() <= 65_536 && *room <= 65_536);
                 }
-                Call::Net { room } | Call::Offset { room } => assert!(*room <= 65_536),
+                Call::Net { room } | Call::Offset { room } | Call::NetAndOffset { room } => {
+                    assert!(*room <= 65_536);
+                }
                 Call::ChargeBy { table } | Call::InterestLadderBy { table, .. } => {
                     assert!(table.len() <= 256);
                 }
@@ -146,8 +150,8 @@ mod tests {
         assert_eq!(super::record(&small_bank(&[7])), [9, 0, 0, 1, 0, 0, 0, 7]);
     }
 
-    /// Catches the two lengths of netting or of offsetting in each other's place, and one call's
-    /// tag that is the other's.
+    /// Catches the two lengths of a call that writes in each other's place, and one call's tag that
+    /// is another's.
     #[test]
     fn the_length_of_the_output_comes_before_the_book() {
         let of = |call: fn(&[u8], usize) -> Case, tag: u8| {
@@ -160,6 +164,7 @@ mod tests {
         };
         of(net, 10);
         of(offset, 11);
+        of(net_and_offset, 12);
     }
 
     #[test]

@@ -8,8 +8,8 @@ use std::process::{Command, Output};
 use std::sync::OnceLock;
 use std::{env, fs};
 
-/// The nine calls, as the C interface names them.
-pub const CALLS: [&str; 9] = [
+/// The ten calls, as the C interface names them.
+pub const CALLS: [&str; 10] = [
     "check",
     "charge",
     "interest_ladder",
@@ -18,6 +18,7 @@ pub const CALLS: [&str; 9] = [
     "join",
     "net",
     "offset",
+    "net_and_offset",
     "table",
 ];
 
@@ -35,7 +36,7 @@ fn build(command: &mut Command) {
 }
 
 /// The files of the stand-in.
-const SOURCES: [&str; 4] = ["stand_in", "small_bank", "net", "offset"];
+const SOURCES: [&str; 5] = ["stand_in", "small_bank", "net", "offset", "net_and_offset"];
 
 /// Compiles a file of the stand-in into a folder and gives the object.
 fn object(folder: &str, name: &str) -> String {
