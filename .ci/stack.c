@@ -23,6 +23,9 @@ static uint8_t legs[sizeof book];
 /* The same legs with issue numbers: every two rows that offset are of two issues. */
 static uint8_t both[sizeof book];
 
+/* The same book with a bad last row. */
+static uint8_t bad[sizeof book];
+
 /* A small bank's book: the last two classes of the one above. */
 static uint8_t small[8 + 2 * ROWS * 16];
 
@@ -54,6 +57,8 @@ static void fill(void)
     memcpy(both, legs, sizeof legs);
     for (size_t row = 0; row < 4 * ROWS; row++)
         both[8 + 16 * row + 6] = row % 100;
+    memcpy(bad, book, sizeof book);
+    bad[sizeof bad - 16] = 32;
 }
 
 static void check(void) { market_risk_check(book, sizeof book, out); }
@@ -71,6 +76,8 @@ static void join(void)
 static void net(void) { market_risk_net(issues, sizeof issues, joined, sizeof joined, out); }
 static void offset(void) { market_risk_offset(legs, sizeof legs, joined, sizeof joined, out); }
 static void net_and_offset(void) { market_risk_net_and_offset(both, sizeof both, joined, sizeof joined, out); }
+
+static void shortest(void) { market_risk_shortest(bad, sizeof bad, joined, sizeof joined, out); }
 
 static size_t used(void (*call)(void))
 {
@@ -106,5 +113,6 @@ int main(void)
     refused += print_used("charge", charge) + print_used("interest_ladder", interest_ladder);
     refused += print_used("commodity_ladder", commodity_ladder) + print_used("small_bank", small_bank);
     refused += print_used("join", join) + print_used("net", net);
-    return refused + print_used("offset", offset) + print_used("net_and_offset", net_and_offset);
+    refused += print_used("offset", offset) + print_used("net_and_offset", net_and_offset);
+    return refused + print_used("shortest", shortest);
 }

@@ -3,7 +3,8 @@
  * under a table of its own. Then the charges of a bank with only foreign exchange and
  * commodities, those of one bond, long and short, before it is netted and after, those of
  * three swap legs, before they offset each other and after, in two orders, and those of legs
- * of one issue, netted and offset in one call.
+ * of one issue, netted and offset in one call. Last the shortest files that show why books are
+ * refused.
  *
  *     cc -Wall -Wextra -Werror -Iinclude examples/charge.c target/staticlib/libmarket_risk.a -o charge
  */
@@ -220,8 +221,30 @@ static void print_net_and_offset(const char *name, const uint8_t book[sizeof tog
     printf("comparisons %" PRIu64 "\n", result[4]);
 }
 
+/* Prints the bytes of the shortest file that shows why a book is refused, and what it is refused with itself. */
+static void print_shortest(const char *name, const uint8_t *book, size_t len)
+{
+    uint8_t file[24]; /* always enough */
+    uint64_t result[5], check[3];
+
+    market_risk_shortest(book, len, file, sizeof file, result);
+    printf("%s\n", name);
+    if (result[0] != 0) {
+        printf("refused %" PRIu64 "\n", result[0]);
+    } else if (result[4] == 1) {
+        printf("accepted\n");
+    } else {
+        printf("bytes %" PRIu64 ":", result[3]);
+        for (size_t i = 0; i < result[3]; i++)
+            printf(" %d", file[i]);
+        market_risk_check(file, result[3], check);
+        printf("\nrefused %" PRIu64 " row %" PRIu64 "\n", check[0], check[1]);
+    }
+}
+
 int main(void)
 {
+    static const uint8_t zeros[8 + 1];
     uint8_t spoiled[sizeof classes], ended[sizeof floating], unlike[sizeof bonds], turned[sizeof legs], apart[sizeof together], table[36];
 
     market_risk_table(table);
@@ -258,5 +281,11 @@ int main(void)
     print_offset("the same, offset", together);
     print_net_and_offset("the same, netted and offset", together);
     print_net_and_offset("the same with its last leg a day longer, netted and offset", apart);
+    print_shortest("book of four classes, its last row bad, shown", spoiled, sizeof spoiled);
+    print_shortest("book of a floating-rate note that ends before its fixing, shown", ended, sizeof ended);
+    print_shortest("equity book without its last byte, shown", equity, sizeof equity - 1);
+    print_shortest("book without rows and a byte too long, shown", zeros, sizeof zeros);
+    print_shortest("book of seven bytes, shown", zeros, 7);
+    print_shortest("book of four classes, shown", classes, sizeof classes);
     return 0;
 }

@@ -44,6 +44,7 @@
  *     market_risk_net              81000
  *     market_risk_offset           65000
  *     market_risk_net_and_offset   82000
+ *     market_risk_shortest           200
  *
  * The charge, the small bank, netting and offsetting call memset. Where the loader binds it at its
  * first call, that takes some 3000 bytes more, once.
@@ -151,6 +152,25 @@ void market_risk_offset(const uint8_t *book, size_t len, uint8_t *out, size_t ou
  * market_risk_net makes of this book. */
 void market_risk_net_and_offset(const uint8_t *book, size_t len, uint8_t *out, size_t out_len,
                                 uint64_t result[5]);
+
+/* Writes the shortest file that is refused with the same number as a refused book to the front of
+ * out, which has out_len bytes: what has to be sent to have that number explained, with none of the
+ * book's other rows. By the number that market_risk_check gives for the book, it is
+ *     1               nothing, of length 0
+ *     2               the book's contents, its first eight bytes
+ *     3               the contents, in which the first count is made 1 where all four are zero
+ *     4 to 9 and 15   contents with a count of 1 in the class of the refused row and 0 in the others,
+ *                     and the 16 bytes of that row
+ * market_risk_charge refuses it with that number, in row 0, under every table that is accepted. It is
+ * never longer than the book, and no shorter file is refused with that number. Of an accepted book
+ * nothing is written: its length is 0 as well, and the last entry tells it from a book refused with 1.
+ * Bytes past what is written keep their values. The book's own refusal is none of this call, whose
+ * only one is 12, an output shorter than what is to be written; then nothing is. 24 bytes are always
+ * enough.
+ * result: number, row (0), book (0); the length of what is written; 1 where the book is accepted and
+ * 0 where it is not. */
+void market_risk_shortest(const uint8_t *book, size_t len, uint8_t *out, size_t out_len,
+                          uint64_t result[5]);
 
 #ifdef __cplusplus
 }

@@ -10,3 +10,4 @@ pub mod Terms
 pub mod Acceptance
 pub mod Handing
 pub mod ClassRows
+pub mod Faults

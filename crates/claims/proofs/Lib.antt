@@ -19,3 +19,5 @@ pub mod Offsetting
 pub mod OffsettingBooks
 pub mod NetOffset
 pub mod OrderBooks
+pub mod Shortest
+pub mod ShortestBooks

@@ -16,3 +16,5 @@ pub mod Offsetting
 pub mod OffsettingFacts
 pub mod NetOffset
 pub mod OrderFacts
+pub mod Shortest
+pub mod ShortestFacts

@@ -1,15 +1,14 @@
 -- The same amount taken off both sides of a band: gross falls by twice it, the vertical match by it, and nothing else changes.
 -- Assumes nothing.
-use Prim.Native.Nat.{ℕ, _+_, _*_, _<_}
+use Prim.Native.Nat.{ℕ, _+_, _*_}
 use mathlib.Core.Path.{_≡_, ap, fun-ext}
 use mathlib.Core.List.{List, [], _∷_}
 use native.Mathlib.Omega.{arith}
 use Rattle.ladder.specs.Position.{Bands, gross, total, vertical, bandNets}
-use Rattle.sums.specs.Sums.{span, sumOf}
+use Rattle.sums.specs.Sums.{sumOf}
 use Rattle.ladder.specs.Table.{Percents}
-use Rattle.ladder.specs.Interest.{Zones, matches, allBands, zones}
+use Rattle.ladder.specs.Interest.{Zones, matches, allBands}
 use Rattle.ladder.proofs.Matching.{Takes, takes-gross, takes-net}
-use Rattle.sums.proofs.Spans.{slot, slot-within}
 use Rattle.ladder.proofs.Totals.{takes-vertical}
 use Rattle.ladder.proofs.AddsUp.{chargeOf}
 
@@ -51,8 +50,3 @@ module _ {taken : ℕ → ℕ} {before after : Bands} (t : TakesOff taken before
 
   pub charge-taken : (p : Percents) (z : Zones) → chargeOf p z before ≡ p .vertical * sumOf taken (allBands z) + chargeOf p z after
   charge-taken p z = rw (matches-taken z) (omega arith)
-
--- one band of document 01's ladder
-pub one-band : (band amount : ℕ) → band < 15 → sumOf (slot band amount) (allBands zones) ≡ amount
-unfolding span
-one-band band amount h = slot-within band amount 0 15 (omega arith) h

@@ -6,7 +6,6 @@ use Prim.Native.Nat.{ℕ, _≤_, _<_}
 use borrow.Author.Tests.{eq-eqb, ne-eqb, lt-ltb, le-ltb}
 use Rattle.book.specs.declared.Refusal.{Refusal}
 use Rattle.book.specs.Refusals.{refused}
-use Rattle.layout.specs.Written.{written}
 use Rattle.layout.specs.Room.{orNext, roomRefusal, figureOf, outputOf}
 
 -- the first of two refusals
@@ -41,7 +40,3 @@ module _ (refusal : Refusal) where
   pub output-kept : (refusal .number ≡ 0 → ⊥) → (book out : List ℕ) → outputOf refusal book out ≡ out
   unfolding outputOf
   output-kept some book out = rw (ne-eqb (refusal .number) 0 some)
-
-  pub output-written : refusal .number ≡ 0 → (book out : List ℕ) → outputOf refusal book out ≡ written out 0 book
-  unfolding outputOf
-  output-written none book out = rw (eq-eqb (refusal .number) 0 none)

@@ -1,5 +1,6 @@
 -- The entries of each call's result, in order.
 use Prim.Native.Nat.{ℕ}
+use mathlib.Core.Bool.{cond}
 use mathlib.Core.List.{List, [], _∷_, _++_}
 use Rattle.book.specs.declared.Refusal.{Refusal}
 use Rattle.charges.specs.declared.Report.{Report}
@@ -8,6 +9,7 @@ use Rattle.charges.specs.declared.CommodityLadder.{CommodityLadder}
 use Rattle.charges.specs.declared.SmallBank.{SmallBank}
 use Rattle.layout.specs.declared.Written.{Written}
 use Rattle.join.specs.declared.Joined.{Joined}
+use Rattle.shortest.specs.declared.Shown.{Shown}
 use Rattle.netting.specs.declared.Netted.{Netted}
 
 -- number, row, book (document 01, Who is told no, and why)
@@ -59,3 +61,7 @@ nettedEntries netted = refusalEntries (netted .refusal) ++ (netted .length ∷ n
 -- the refusal, the length of what is written (P2)
 unfoldable pub writtenEntries : Written → List ℕ
 writtenEntries written = refusalEntries (written .refusal) ++ (written .length ∷ [])
+
+-- the refusal, the length of what is written, and 1 where the book is accepted, 0 where not (P12)
+unfoldable pub shownEntries : Shown → List ℕ
+shownEntries shown = refusalEntries (shown .refusal) ++ (shown .length ∷ cond (shown .accepted) 1 0 ∷ [])

@@ -1,4 +1,6 @@
 // The calls for programs in other languages: each writes every entry of its result.
+mod writing;
+
 ghost use mathlib.Core.Path.{_≡_};
 ghost use Prim.Native.Nat.{_+_, _≤_};
 ghost use lib.ListN.{length as len};
@@ -7,11 +9,7 @@ ghost use Rattle.table.specs.Loaded.{standardBytes};
 ghost use Rattle.layout.specs.Written.{written};
 ghost use Rattle.charges.specs.Report.{reportOf, interestLadderOf, commodityLadderOf};
 ghost use Rattle.charges.specs.SmallBank.{smallBankOf};
-ghost use Rattle.join.specs.Joined.{joinedOf, joinOutput};
-ghost use Rattle.netting.specs.Netted.{nettedOf, nettingOutput};
-ghost use Rattle.offsetting.specs.Offset.{offsetOf, offsettingOutput};
-ghost use Rattle.offsetting.specs.NetOffset.{netOffsetOf, netOffsetOutput};
-ghost use Rattle.market_risk.specs.Entries.{refusalEntries, reportEntries, interestEntries, commodityEntries, smallEntries, joinedEntries, nettedEntries, writtenEntries};
+ghost use Rattle.market_risk.specs.Entries.{refusalEntries, reportEntries, interestEntries, commodityEntries, smallEntries};
 
 // The entries of a report: its refusal and figures, and two for each currency.
 const REPORT: usize = 75;
@@ -134,67 +132,5 @@ pub extern "C" fn market_risk_small_bank(book: &[u8], out: &mut [u64; 6])
         bank.exchange,
         bank.commodity,
         bank.total,
-    ];
-}
-
-// Joins two books into out: bytes past the joined book keep their values, of a refused join all do.
-#[no_mangle]
-pub extern "C" fn market_risk_join(a: &[u8], b: &[u8], out: &mut [u8], result: &mut [u64; 4])
-    ensures { λ r. ⌜ now (out .exit) ≡ joinOutput (now (a .entry)) (now (b .entry)) (now (out .entry)) ⌝ }
-    ensures { λ r. ⌜ now (result .exit) ≡ joinedEntries (joinedOf (now (a .entry)) (now (b .entry)) (len (now (out .entry)))) ⌝ }
-{
-    let joined = join::join(a, b, out);
-    *result = [
-        joined.refusal.number as u64,
-        joined.refusal.row as u64,
-        joined.refusal.book as u64,
-        joined.length as u64,
-    ];
-}
-
-// Nets the issues of a book into out: bytes past the netted book keep their values, of a refused call all do.
-#[no_mangle]
-pub extern "C" fn market_risk_net(book: &[u8], out: &mut [u8], result: &mut [u64; 5])
-    ensures { λ r. ⌜ now (out .exit) ≡ nettingOutput (now (book .entry)) (now (out .entry)) ⌝ }
-    ensures { λ r. ⌜ now (result .exit) ≡ nettedEntries (nettedOf (now (book .entry)) (len (now (out .entry)))) ⌝ }
-{
-    let netted = netting::net(book, out);
-    *result = [
-        netted.refusal.number as u64,
-        netted.refusal.row as u64,
-        netted.refusal.book as u64,
-        netted.length as u64,
-        netted.comparisons as u64,
-    ];
-}
-
-// Writes a book without its fitting swap legs into out: bytes past it keep their values, of a refused call all do.
-#[no_mangle]
-pub extern "C" fn market_risk_offset(book: &[u8], out: &mut [u8], result: &mut [u64; 4])
-    ensures { λ r. ⌜ now (out .exit) ≡ offsettingOutput (now (book .entry)) (now (out .entry)) ⌝ }
-    ensures { λ r. ⌜ now (result .exit) ≡ writtenEntries (offsetOf (now (book .entry)) (len (now (out .entry)))) ⌝ }
-{
-    let left = offsetting::offset(book, out);
-    *result = [
-        left.refusal.number as u64,
-        left.refusal.row as u64,
-        left.refusal.book as u64,
-        left.length as u64,
-    ];
-}
-
-// Nets the issues of a book and then drops its fitting swap legs, into out: bytes past the result keep their values, of a refused call all do.
-#[no_mangle]
-pub extern "C" fn market_risk_net_and_offset(book: &[u8], out: &mut [u8], result: &mut [u64; 5])
-    ensures { λ r. ⌜ now (out .exit) ≡ netOffsetOutput (now (book .entry)) (now (out .entry)) ⌝ }
-    ensures { λ r. ⌜ now (result .exit) ≡ nettedEntries (netOffsetOf (now (book .entry)) (len (now (out .entry)))) ⌝ }
-{
-    let both = offsetting::net_and_offset(book, out);
-    *result = [
-        both.refusal.number as u64,
-        both.refusal.row as u64,
-        both.refusal.book as u64,
-        both.length as u64,
-        both.comparisons as u64,
     ];
 }

@@ -61,6 +61,7 @@ unfoldable pub nettedAnswer : Refusal → List ℕ → ℕ → Netted
 nettedAnswer refusal book comparisons =
     record { refusal = refusal; length = figureOf refusal (length book); comparisons = figureOf refusal comparisons }
 
+-- what netting gives, into an output of so many bytes (P1; P7)
 unfoldable pub nettedOf : List ℕ → ℕ → Netted
 nettedOf s room = nettedAnswer (nettingRefusal s room) (nettedBook s) (comparisonsOf s)
 

@@ -15,7 +15,7 @@ ghost use Rattle.book.specs.Accepted.{Accepted};
 ghost use Rattle.netting.specs.Netted.{nettedOf, nettingOutput};
 ghost use Rattle.netting.specs.Inner.Nets.{Settled, refusedNetting};
 
-// Why netting is refused, all zero where it is not; the length of the netted book and the comparisons made, 0 where it is refused.
+// Why a call that nets is refused, all zero where it is not; the length of what is written and the comparisons made, 0 where it is refused.
 pub struct Netted {
     pub refusal: Refusal,
     pub length: usize,

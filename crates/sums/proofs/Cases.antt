@@ -5,6 +5,7 @@ use mathlib.Core.Bool.{Bool, true, false, cond, _||_, _&&_, true≢false, false�
 use Prim.Native.Nat.{ℕ, suc, _+_, _*_, _≤_, _<_}
 use native.Mathlib.Nat.{mul-zero}
 use native.Mathlib.Omega.{arith}
+use mir.Val.{boolByte}
 use lib.Dec.{T}
 
 -- ---- tests put together
@@ -43,6 +44,11 @@ cond-add true a b c d = refl
 cond-add false a b c d = refl
 
 -- ---- a number that counts where a test passes
+-- a test as a machine's number
+pub as-number : (test : Bool) → boolByte test ≡ cond test 1 0
+as-number true = refl
+as-number false = refl
+
 pub counted-where : (test : Bool) (n : ℕ) → T test → cond test n 0 ≡ n
 counted-where true n passes = refl
 counted-where false n passes = absurd passes

@@ -96,10 +96,6 @@ is-true true e = refl
 is-true false e = absurd (true≢false e)
 
 module _ (bytes : List ℕ) where
-  weight-in : (band : ℕ) → band < tableBands → weightIn (tableOf bytes) band ≡ weightAt bytes band
-  unfolding weightIn tableOf
-  weight-in band h = listed-at (weightAt bytes) tableBands band h
-
   pub described : tableRefusal bytes ≡ 0 → AcceptedTable bytes
   unfolding tableRefusal tableOf
   described e =

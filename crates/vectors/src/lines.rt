@@ -130,6 +130,15 @@ pub fn offset(book: &[u8], out: &mut [u8]) {
     end();
 }
 
+pub fn shortest(book: &[u8], out: &mut [u8]) {
+    let shown = shortest::shortest(book, out);
+    start(b"shortest", shown.refusal);
+    figure(shown.length as u64);
+    figure(shown.accepted as u64);
+    figure(checksum(out));
+    end();
+}
+
 fn wide(byte: u8) -> u64
     ensures { λ r. ⌜ r < 256 ⌝ }
 {

@@ -60,17 +60,19 @@ fn answer_join(in_runs: bool) -> bool {
     write_into(5, &a[..m], &b[..n], room)
 }
 
-// Joins two books, nets the first, offsets it or does both, into an output of as many bytes as there is room for, each 165 before.
+// Joins two books, nets the first, offsets it, does both, or shows its refusal, into an output of as many bytes as there is room for, each 165 before.
 fn write_into(call: u8, a: &[u8], b: &[u8], room: usize) -> bool {
     let mut out = [165u8; 65536];
     if out.len() < room {
         return false;
     }
+    let lent = &mut out[..room];
     match call {
-        5 => lines::join(a, b, &mut out[..room]),
-        10 => lines::net(a, &mut out[..room]),
-        11 => lines::offset(a, &mut out[..room]),
-        _ => lines::net_and_offset(a, &mut out[..room]),
+        5 => lines::join(a, b, lent),
+        10 => lines::net(a, lent),
+        11 => lines::offset(a, lent),
+        12 => lines::net_and_offset(a, lent),
+        _ => lines::shortest(a, lent),
     }
     true
 }
@@ -99,7 +101,7 @@ fn answer_next() -> bool {
         7 => answer_by_table(3, in_runs),
         8 => answer_table(),
         9 => answer_standard(call, in_runs),
-        10..=12 => answer_written(call, in_runs),
+        10..=13 => answer_written(call, in_runs),
         _ => false,
     }
 }

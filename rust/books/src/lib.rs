@@ -12,6 +12,7 @@ pub mod issues;
 pub mod legs;
 pub mod names;
 pub mod random;
+pub mod refused;
 pub mod small;
 pub mod split;
 pub mod tables;

@@ -25,6 +25,7 @@ mod net_and_offset;
 mod offset;
 pub mod raw;
 mod refusal;
+mod shortest;
 mod small_bank;
 mod table;
 
@@ -32,6 +33,7 @@ pub use net::{net, netted, Netted};
 pub use net_and_offset::{net_and_offset, net_and_offset_book};
 pub use offset::{offset, offset_book};
 pub use refusal::Refusal;
+pub use shortest::{shortest, shortest_file, Shortest};
 pub use small_bank::{small_bank, SmallBank};
 pub use table::{PerCents, Table};
 

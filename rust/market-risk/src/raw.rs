@@ -61,6 +61,13 @@ mod c {
             out_len: usize,
             result: *mut u64,
         );
+        pub fn market_risk_shortest(
+            book: *const u8,
+            len: usize,
+            out: *mut u8,
+            out_len: usize,
+            result: *mut u64,
+        );
     }
 }
 
@@ -168,6 +175,20 @@ pub fn net_and_offset(book: &[u8], out: &mut [u8], result: &mut [u64; 5]) {
     // SAFETY: as in `net`.
     unsafe {
         c::market_risk_net_and_offset(
+            book.as_ptr(),
+            book.len(),
+            out.as_mut_ptr(),
+            out.len(),
+            result.as_mut_ptr(),
+        )
+    }
+}
+
+/// Number, row, book; the length of the file at the front of `out`; 1 where the book is accepted.
+pub fn shortest(book: &[u8], out: &mut [u8], result: &mut [u64; 5]) {
+    // SAFETY: as in `net`.
+    unsafe {
+        c::market_risk_shortest(
             book.as_ptr(),
             book.len(),
             out.as_mut_ptr(),

@@ -155,7 +155,7 @@ fn every_entry_is_written() {
     let (mut check, mut charge) = ([marked; 3], [marked; 75]);
     let (mut join, mut net, mut offset) = ([marked; 4], [marked; 5], [marked; 4]);
     let (mut interest, mut commodity) = ([marked; 13], [marked; 7]);
-    let (mut small_bank, mut both) = ([marked; 6], [marked; 5]);
+    let (mut small_bank, mut both, mut shortest) = ([marked; 6], [marked; 5], [marked; 5]);
     let table = Table::amendment();
     for book in [&[0; 8][..], &[]] {
         raw::check(book, &mut check);
@@ -167,6 +167,7 @@ fn every_entry_is_written() {
         raw::net(book, &mut [0; 8], &mut net);
         raw::offset(book, &mut [0; 8], &mut offset);
         raw::net_and_offset(book, &mut [0; 8], &mut both);
+        raw::shortest(book, &mut [0; 8], &mut shortest);
         let results = [
             &mut check[..],
             &mut charge,
@@ -177,6 +178,7 @@ fn every_entry_is_written() {
             &mut net,
             &mut offset,
             &mut both,
+            &mut shortest,
         ];
         for out in results {
             assert!(!out.contains(&marked));

@@ -2,8 +2,8 @@
 //! Catches two fields that are exchanged, and one that is read from another's entry.
 
 use market_risk::{charge, commodity_ladder, interest_ladder, join, joined, net, net_and_offset};
-use market_risk::{net_and_offset_book, netted, offset, offset_book, raw, small_bank};
-use market_risk::{Refusal, Table};
+use market_risk::{net_and_offset_book, netted, offset, offset_book, raw, shortest};
+use market_risk::{shortest_file, small_bank, Refusal, Shortest, Table};
 
 /// A row of 16 bytes with one signed amount: long above zero, short below.
 fn row(group: u8, kind: u8, days: u16, coupon: u16, net: i32) -> [u8; 16] {
@@ -288,4 +288,32 @@ fn both_in_one_call_and_their_refusals() {
     let refusal = Refusal { number, row, book };
     assert_eq!(net_and_offset_book(&bad), Err(refusal));
     assert_eq!(net_and_offset(&bad, &mut out), Err(refusal));
+}
+
+#[test]
+fn shortest_files_and_their_refusal() {
+    // Row 1 has 36,001 days, and is shown alone.
+    let rows = [(1080, 10), (36_001, 3)].map(|(days, net)| row(7, 1, days, 800, net));
+    let whole = book([&rows, &[], &[], &[]]);
+    let expected = book([&rows[1..], &[], &[], &[]]);
+    let (mut out, mut entries) = (vec![9; 30], [0; 5]);
+    raw::shortest(&whole, &mut out, &mut entries);
+    assert_eq!(entries, [0, 0, 0, 8 + 16, 0]);
+    assert_eq!(out, [&expected[..], &[9; 6]].concat());
+    assert_eq!(
+        shortest(&whole, &mut out),
+        Ok(Shortest::Refused { length: 24 })
+    );
+    assert_eq!(shortest_file(&whole), Some(expected));
+    // Length and mark differ: an accepted book.
+    let good = book([&rows[..1], &[], &[], &[]]);
+    raw::shortest(&good, &mut out, &mut entries);
+    assert_eq!(entries, [0, 0, 0, 0, 1]);
+    assert_eq!(shortest(&good, &mut out), Ok(Shortest::Accepted));
+    assert_eq!(shortest_file(&good), None);
+    raw::shortest(&whole, &mut out[..23], &mut entries);
+    assert_eq!(entries, [12, 0, 0, 0, 0]);
+    let [number, row, book, ..] = entries;
+    let refusal = Refusal { number, row, book };
+    assert_eq!(shortest(&whole, &mut out[..23]), Err(refusal));
 }

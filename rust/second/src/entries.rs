@@ -1,6 +1,7 @@
 //! Results as the calls lay them out: number, row, book, and then the figures.
 
-use crate::{CommodityLadder, InterestLadder, Joined, Netted, Offset, Refusal, Report, SmallBank};
+use crate::{CommodityLadder, InterestLadder, Joined, Netted, Offset, Refusal, Report};
+use crate::{Shortest, SmallBank};
 
 /// A refusal and figures, of which there must be as many as the call gives.
 fn laid_out<const N: usize>(refusal: Refusal, figures: &[u64]) -> [u64; N] {
@@ -79,6 +80,13 @@ impl Offset {
     /// The refusal and the length.
     pub fn entries(&self) -> [u64; 4] {
         laid_out(self.refusal, &[self.length])
+    }
+}
+
+impl Shortest {
+    /// The refusal, the length, and 1 where the book is accepted.
+    pub fn entries(&self) -> [u64; 5] {
+        laid_out(self.refusal, &[self.length, self.accepted.into()])
     }
 }
 

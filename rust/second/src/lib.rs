@@ -22,6 +22,7 @@ mod net_and_offset;
 mod offset;
 mod open;
 mod report;
+mod shortest;
 mod small_bank;
 mod table;
 mod written;
@@ -36,6 +37,7 @@ pub use net::{net, netted, Netted};
 pub use net_and_offset::{net_and_offset, net_and_offset_book};
 pub use offset::{offset, offset_book, Offset};
 pub use report::{charge, Report};
+pub use shortest::{shortest, shortest_file, Shortest};
 pub use small_bank::{small_bank, SmallBank};
 pub use table::{read_table, table, Table, TABLE_BYTES};
 

@@ -1,8 +1,8 @@
-//! The ten calls with the results of the C interface, by whichever calculation.
+//! The eleven calls with the results of the C interface, by whichever calculation.
 
 use market_risk::raw;
 
-/// A calculation that answers all ten calls, writing every entry of each result.
+/// A calculation that answers all eleven calls, writing every entry of each result.
 pub trait Calls {
     /// What the calculation is called in a message. No two have the same name.
     fn name(&self) -> &'static str;
@@ -25,6 +25,8 @@ pub trait Calls {
     fn offset(&self, book: &[u8], out: &mut [u8], result: &mut [u64; 4]);
     /// Number, row, book; length; comparisons.
     fn net_and_offset(&self, book: &[u8], out: &mut [u8], result: &mut [u64; 5]);
+    /// Number, row, book; length; 1 where the book is accepted.
+    fn shortest(&self, book: &[u8], out: &mut [u8], result: &mut [u64; 5]);
     /// Document 01's table.
     fn table(&self, out: &mut [u8; 36]);
 }
@@ -62,6 +64,9 @@ impl Calls for Proved {
     }
     fn net_and_offset(&self, book: &[u8], out: &mut [u8], result: &mut [u64; 5]) {
         raw::net_and_offset(book, out, result);
+    }
+    fn shortest(&self, book: &[u8], out: &mut [u8], result: &mut [u64; 5]) {
+        raw::shortest(book, out, result);
     }
     fn table(&self, out: &mut [u8; 36]) {
         raw::table(out);
@@ -110,6 +115,10 @@ impl Calls for Second {
 
     fn net_and_offset(&self, book: &[u8], out: &mut [u8], result: &mut [u64; 5]) {
         *result = second::net_and_offset(book, out).entries();
+    }
+
+    fn shortest(&self, book: &[u8], out: &mut [u8], result: &mut [u64; 5]) {
+        *result = second::shortest(book, out).entries();
     }
 
     fn table(&self, out: &mut [u8; 36]) {

@@ -48,13 +48,14 @@ pub fn once(inputs: &[&Path]) -> Outcome {
     }
 }
 
-/// Whether bytes begin with a line of text that has a comma. No book does: eight
-/// printable bytes are counts of 8,224 rows or more, and 4,000 are the most.
+/// Whether bytes begin with a line of text that has a comma. No accepted book does: eight
+/// printable bytes are counts of 8,224 rows or more, and 4,000 are the most. No text is as short as
+/// the contents alone, which show that refusal.
 fn looks_like_csv(bytes: &[u8]) -> bool {
     let first = bytes.split(|byte| *byte == b'\n').next().unwrap_or(bytes);
     let line = first.trim_ascii_end();
     let text = line.iter().all(|byte| !byte.is_ascii_control());
-    text && line.len() >= 8 && line.contains(&b',')
+    text && bytes.len() > 8 && line.len() >= 8 && line.contains(&b',')
 }
 
 /// The bytes of a book, accepted or not; CSV text is told apart from one.
@@ -196,5 +197,7 @@ mod tests {
         for book in books {
             assert!(!looks_like_csv(book), "{book:?}");
         }
+        // Contents alone are no text, whatever they count.
+        assert!(!looks_like_csv(b"abc,efgh") && looks_like_csv(b"abc,efgh\n"));
     }
 }

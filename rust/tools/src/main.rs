@@ -14,6 +14,7 @@ mod offset;
 mod pack;
 mod progress;
 mod report;
+mod shortest;
 mod small_bank;
 mod table;
 mod text;
@@ -27,7 +28,7 @@ use std::io::Write;
 use std::process::ExitCode;
 
 /// The subcommands, in the order of the help text.
-const COMMANDS: [Command; 12] = [
+const COMMANDS: [Command; 13] = [
     pack::COMMAND,
     unpack::COMMAND,
     report::COMMAND,
@@ -36,6 +37,7 @@ const COMMANDS: [Command; 12] = [
     join::COMMAND,
     net::COMMAND,
     offset::COMMAND,
+    shortest::COMMAND,
     table::COMMAND,
     compare::COMMAND,
     bench::COMMAND,

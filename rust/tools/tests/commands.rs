@@ -17,6 +17,7 @@ fn help_for_all_and_each() {
         "join",
         "net",
         "offset",
+        "shortest",
         "table",
         "compare",
         "bench",
@@ -253,6 +254,7 @@ fn csv_text_is_told_from_a_book() {
         &["net", &csv, &out],
         &["net", "--offset", &csv, &out],
         &["offset", &csv, &out],
+        &["shortest", &csv, "-o", &out],
     ] {
         let told = fails(1, words);
         assert!(told.contains("keyed.csv: looks like CSV text"), "{told}");

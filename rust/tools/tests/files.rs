@@ -54,12 +54,14 @@ fn names(folder: &str) -> Vec<String> {
 #[test]
 fn lost_output_is_an_error() {
     let folder = folder("full");
+    fs::write(format!("{folder}/bad.book"), [7]).unwrap();
     for words in [
         "pack x.csv -",
         "unpack x.book -",
         "join x.book x.book -",
         "net x.book -",
         "net x.book net.book --comparisons",
+        "shortest bad.book -o shown.book",
         "report x.book",
         "report x.book --currencies",
         "ladder x.book --currency 7",
@@ -113,6 +115,7 @@ fn an_output_over_an_input_is_refused() {
         "net x.book x.book",
         "net --offset x.book x.book",
         "offset x.book x.book",
+        "shortest x.book -o x.book",
         "table x.csv --out x.csv",
         "table soft.csv --out x.csv",
     ] {
@@ -125,6 +128,7 @@ fn an_output_over_an_input_is_refused() {
         "pack x.csv - >>x.csv",
         "net - x.book <x.book",
         "offset - x.book <x.book",
+        "shortest - -o x.book <x.book",
     ] {
         let told = error(2, script(&folder, &format!("\"$1\" {text}")));
         assert!(told.contains("are one file"), "{text}: {told}");

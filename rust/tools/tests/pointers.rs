@@ -46,6 +46,13 @@ extern "C" {
         out_len: usize,
         result: *mut u64,
     );
+    fn market_risk_shortest(
+        book: *const u8,
+        len: usize,
+        out: *mut u8,
+        out_len: usize,
+        result: *mut u64,
+    );
 }
 
 /// A result in which every entry is marked, with room for the longest.
@@ -154,4 +161,21 @@ fn a_null_output_has_no_room() {
         }),
     ];
     refused_with(12, &calls);
+}
+
+/// Runs the call for the shortest file with a null output, and with null for a book that is absent.
+fn shortest(book: Option<&[u8]>) -> [u64; 5] {
+    let (book, len) = book.map_or((null(), 0), |book| (book.as_ptr(), book.len()));
+    let mut result = [u64::MAX; 5];
+    unsafe { market_risk_shortest(book, len, null_mut(), 0, result.as_mut_ptr()) };
+    result
+}
+
+/// Catches a call that reads a null book or writes to a null output: for no bytes, which are refused
+/// with 1, and for an accepted book there is nothing to write, and for nine bytes no room.
+#[test]
+fn null_books_and_a_null_output_are_shown() {
+    assert_eq!(shortest(None), [0, 0, 0, 0, 0]);
+    assert_eq!(shortest(Some(&EMPTY)), [0, 0, 0, 0, 1]);
+    assert_eq!(shortest(Some(&[0; 9])), [12, 0, 0, 0, 0]);
 }

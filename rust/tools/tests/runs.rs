@@ -29,8 +29,8 @@ fn a_short_benchmark_prints_every_line() {
     let tables: Vec<&str> = text.split("\n\n").skip(1).collect();
     let calls = [
         ("check", 9),
-        // Calls that take a table have a line more; the small bank and the calls that write a book
-        // from one have their own lines.
+        // Calls that take a table have a line more; the small bank and the calls that write from one
+        // book have their own lines.
         ("charge", 10),
         ("interest ladder", 10),
         ("commodity ladder", 9),
@@ -40,6 +40,7 @@ fn a_short_benchmark_prints_every_line() {
         ("net", 9),
         ("offset", 6),
         ("net and offset", 4),
+        ("shortest", 3),
     ];
     assert_eq!(tables.len(), calls.len());
     for (table, (call, lines)) in tables.iter().zip(calls) {

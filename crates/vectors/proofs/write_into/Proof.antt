@@ -5,17 +5,8 @@ use lib.ListN.{length-take}
 use Rattle.vectors.proofs.write_into.Statement.{statement}
 use Rattle.vectors.proofs.write_into.Tie as tie
 
-slice-aggregate-join : tie.Need-slice-aggregate-join
-slice-aggregate-join c = simp length-take (omega arith)
-
-slice-aggregate-net : tie.Need-slice-aggregate-net
-slice-aggregate-net c = simp length-take (omega arith)
-
-slice-aggregate-offset : tie.Need-slice-aggregate-offset
-slice-aggregate-offset c = simp length-take (omega arith)
-
-slice-aggregate-net-and-offset : tie.Need-slice-aggregate-net-and-offset
-slice-aggregate-net-and-offset c = simp length-take (omega arith)
+slice-aggregate-lent : tie.Need-slice-aggregate-lent
+slice-aggregate-lent c = simp length-take (omega arith)
 
 pub write-into-spec : {M : Type 1} → statement M
 write-into-spec =
@@ -23,17 +14,13 @@ write-into-spec =
     (tie.spec
     (λ c. search needs)
     (λ c. search needs)
-    slice-aggregate-join
+    slice-aggregate-lent
+    (λ c κs. search needs)
+    (λ c κs. search needs)
+    (λ c κs. search needs)
+    (λ c κs. search needs)
     (λ c κs. search needs)
     (λ c. search needs)
-    slice-aggregate-net
-    (λ c κs. search needs)
-    (λ c. search needs)
-    slice-aggregate-offset
-    (λ c κs. search needs)
-    (λ c. search needs)
-    slice-aggregate-net-and-offset
-    (λ c κs. search needs)
     (λ c. search needs)
     (λ c. search needs)
     (λ c. search needs)

@@ -74,6 +74,17 @@ pub fn compare_both(book: &[u8], room: usize) -> u64 {
     result[0]
 }
 
+/// Compares the shortest file into so many bytes and gives the number of the call's refusal.
+pub fn compare_shortest(book: &[u8], room: usize) -> u64 {
+    let (mut out, mut second_out) = (vec![0x55; room], vec![0x55; room]);
+    let mut result = [OLD; 5];
+    fast::shortest(book, &mut out, &mut result);
+    let shown = second::shortest(book, &mut second_out);
+    assert_eq!(result, shown.entries(), "{book:?}");
+    assert_eq!(out, second_out, "{book:?}");
+    result[0]
+}
+
 /// Compares offsetting into so many bytes and gives its refusal's number.
 pub fn compare_offset(book: &[u8], room: usize) -> u64 {
     let (mut out, mut second_out) = (vec![0x55; room], vec![0x55; room]);

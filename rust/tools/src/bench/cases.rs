@@ -1,6 +1,6 @@
 //! The books that are timed, and the tables that they are charged under.
 
-use super::{both, issues, legs};
+use super::{both, issues, legs, refusals};
 use books::generate::{row, Shape};
 use books::tables::Table;
 use books::{Book, Random, ROW_BYTES};
@@ -23,6 +23,7 @@ pub enum Whose {
     Offset,
     /// Netting and offsetting in one call.
     Both,
+    Shortest,
     /// All the others.
     Others,
 }
@@ -85,7 +86,7 @@ fn series(number: u64, of: usize, rows: usize, classes: &[usize]) -> Vec<Vec<u8>
 }
 
 /// A case of accepted books.
-fn accepted(name: &'static str, rows: usize, classes: &[usize]) -> Case {
+pub fn accepted(name: &'static str, rows: usize, classes: &[usize]) -> Case {
     let half = rows / 2;
     Case {
         name,
@@ -117,7 +118,7 @@ fn under_own_table() -> Case {
 }
 
 /// Makes the amount of a book's last row too large: the last fault that is looked for.
-fn spoil(book: &mut [u8]) {
+pub fn spoil(book: &mut [u8]) {
     let at = book.len() - ROW_BYTES;
     for side in [8, 12] {
         let amount = &mut book[at + side..at + side + 4];
@@ -141,7 +142,8 @@ pub fn cases() -> Vec<Case> {
     let others = [refused(&[0, 1, 2, 3]), under_own_table()];
     let all = accepted.chain(others).chain(small_banks());
     let written = issues::cases().into_iter().chain(legs::cases());
-    all.chain(written).chain(both::cases()).collect()
+    let written = written.chain(both::cases()).chain(refusals::cases());
+    all.chain(written).collect()
 }
 
 /// The cases of small banks.

@@ -34,7 +34,7 @@ impl Call {
 }
 
 /// The calls, in the order of the tables.
-pub const CALLS: [Call; 9] = [
+pub const CALLS: [Call; 10] = [
     Call {
         name: "check",
         takes_table: false,
@@ -88,6 +88,12 @@ pub const CALLS: [Call; 9] = [
         takes_table: false,
         whose: Whose::Both,
         sides: net_and_offset,
+    },
+    Call {
+        name: "shortest",
+        takes_table: false,
+        whose: Whose::Shortest,
+        sides: shortest,
     },
 ];
 
@@ -194,6 +200,20 @@ fn net_and_offset(case: &Case) -> Sides<'_> {
         Second.net_and_offset(book, out, result);
     };
     written(case, second, raw::net_and_offset, fast::net_and_offset)
+}
+
+/// The floor is a pass over the book: hardly anything of it is written.
+fn shortest(case: &Case) -> Sides<'_> {
+    let books = &case.books;
+    let second = |book: &[u8], out: &mut [u8], result: &mut [u64; 5]| {
+        Second.shortest(book, out, result);
+    };
+    let expected = expected_of_outputs(case, second);
+    compared(vec![
+        ("proved", of_output(books, raw::shortest), expected.clone()),
+        ("Rust", of_output(books, fast::shortest), expected),
+        words(case),
+    ])
 }
 
 /// The sides of a call on a book that writes another.

@@ -140,6 +140,9 @@ fn first<'a>(call: &Call, cases: &'a [Case]) -> &'a Case {
 /// The calls that write a book, from two books and from one.
 const WRITES: [&str; 4] = ["join", "net", "offset", "net and offset"];
 
+/// Other calls that stand in a file of their own in plain Rust.
+const OWN_FILES: [&str; 2] = ["small_bank", "shortest"];
+
 /// Catches another call, or another's call, under a name: the compiler names what is run.
 #[test]
 fn each_name_times_its_own_call() {
@@ -153,6 +156,7 @@ fn each_name_times_its_own_call() {
         "net",
         "offset",
         "net_and_offset",
+        "shortest",
     ];
     let cases = cases();
     for (call, function) in CALLS.iter().zip(functions) {
@@ -160,7 +164,7 @@ fn each_name_times_its_own_call() {
         for side in (call.sides)(first(call, &cases)).unwrap() {
             let path = match side.name {
                 "proved" => format!("market_risk::raw::{function}"),
-                "Rust" if WRITES.contains(&call.name) || function == "small_bank" => {
+                "Rust" if WRITES.contains(&call.name) || OWN_FILES.contains(&function) => {
                     format!("fast::{function}::{function}")
                 }
                 "Rust" => format!("fast::{function}"),
@@ -215,7 +219,7 @@ fn the_small_bank_has_lines_of_its_own() {
         let books: Vec<&str> = table.lines.iter().map(|line| line.book).collect();
         let own = books.iter().filter(|book| **book == "fx and commodity");
         let small_bank = call.name == "small bank";
-        let alone = WRITES[1..].contains(&call.name);
+        let alone = WRITES[1..].contains(&call.name) || call.name == "shortest";
         assert_eq!(own.count(), if small_bank { 3 } else { 0 }, "{books:?}");
         let others = !small_bank && !alone;
         assert_eq!(books.contains(&"all classes"), others, "{books:?}");
@@ -223,8 +227,8 @@ fn the_small_bank_has_lines_of_its_own() {
     }
 }
 
-/// The lines that calls on one book have which write another.
-const OWN_LINES: [(&str, &[(&str, usize)]); 3] = [
+/// The lines that calls on one book have which write another, or a part of it.
+const OWN_LINES: [(&str, &[(&str, usize)]); 4] = [
     (
         "net",
         &[
@@ -256,6 +260,14 @@ const OWN_LINES: [(&str, &[(&str, usize)]); 3] = [
             ("10 issues in pairs", 40),
             ("60 issues in pairs", 4_000),
             ("4,000 issues, amounts apart", 4_000),
+        ],
+    ),
+    (
+        "shortest",
+        &[
+            ("last row bad", 40),
+            ("last row bad", 4_000),
+            ("accepted", 4_000),
         ],
     ),
 ];

@@ -1,10 +1,11 @@
-//! One random case: two books, a table, a group and the lengths of four outputs.
+//! One random case: two books, a table, a group and the lengths of five outputs.
 
 use super::e4::{add_e4, add_e4_issue};
 use books::damage::{damage, damage_note};
 use books::generate::{book, interest_book, interest_rows, ladder_book, Shape};
 use books::issues::{many, spoil, Issues};
 use books::legs::Legs;
+use books::refused;
 use books::small::{slip_in, small_book};
 use books::split;
 use books::tables::random::{accepted, broken, nudged, of_wrong_length, WAYS};
@@ -27,6 +28,8 @@ pub struct Case {
     pub offset_room: usize,
     /// The length of the output of doing both.
     pub both_room: usize,
+    /// The length of the output of the shortest file that shows its refusal.
+    pub shortest_room: usize,
     /// The seed of the order in which the sample of demand 3 puts rows.
     pub order: u64,
 }
@@ -87,6 +90,17 @@ fn room_of_both(random: &mut Random, book: &[u8]) -> usize {
     match second::netted(book) {
         Ok(netted) if random.once_in(3) => room(random, netted.len()),
         _ => room_of(random, book, second::net_and_offset_book(book)),
+    }
+}
+
+/// A length of the output of the shortest file that shows a book's refusal, which has 0, 8 or 24
+/// bytes: one of these and those next to them, any small one, or one next to what is written.
+fn room_to_show(random: &mut Random, book: &[u8]) -> usize {
+    let file = second::shortest_file(book).unwrap_or_default();
+    match random.below(4) {
+        0 => random.pick(&[0, 7, 8, 23, 24, 25]),
+        1 => random.below(50) as usize,
+        _ => room(random, file.len()),
     }
 }
 
@@ -233,6 +247,15 @@ fn books_of_split_legs(random: &mut Random) -> [Vec<u8>; 2] {
     })
 }
 
+/// Two files that are refused, in each way.
+fn refused_files(random: &mut Random) -> [Vec<u8>; 2] {
+    let most = if random.once_in(40) { 400 } else { 9 };
+    [0; 2].map(|_| {
+        let rows = random.below(most) as usize;
+        refused::file(random, rows)
+    })
+}
+
 /// A table: mostly an accepted one, often document 01's; else with one condition broken by one,
 /// with one byte changed, or of a wrong length.
 fn table(random: &mut Random) -> Vec<u8> {
@@ -250,7 +273,8 @@ fn table(random: &mut Random) -> Vec<u8> {
 
 impl Case {
     /// The case with this number of a seed. Every fourth is about issues, every hundredth about
-    /// very many of them, every eighth about swap legs, and every sixteenth about both.
+    /// very many of them, every eighth about swap legs, every sixteenth about both, and every
+    /// sixteenth about refusals.
     pub fn new(seed: u64, number: u64) -> Case {
         // The table has a stream of its own.
         let table = table(&mut Random::of_case(!seed, number));
@@ -260,6 +284,7 @@ impl Case {
             _ if number % 4 == 3 => books_of_issues(&mut random, &table),
             _ if number % 8 == 5 => books_of_legs(&mut random),
             _ if number % 16 == 9 => books_of_split_legs(&mut random),
+            _ if number % 16 == 1 => refused_files(&mut random),
             0 | 1 => books_of_currencies(&mut random, &table),
             2 | 3 => books_of_notes(&mut random),
             4 | 5 => books_of_one_group(&mut random),
@@ -273,6 +298,7 @@ impl Case {
             net_room: room_of(&mut random, &a, second::netted(&a)),
             offset_room: room_of(&mut random, &a, second::offset_book(&a)),
             both_room: room_of_both(&mut random, &a),
+            shortest_room: room_to_show(&mut random, &a),
             table,
             a,
             b,

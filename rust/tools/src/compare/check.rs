@@ -1,4 +1,4 @@
-//! All ten calls on one case, entry by entry and byte by byte.
+//! All eleven calls on one case, entry by entry and byte by byte.
 
 use super::case::Case;
 use crate::calls::Calls;
@@ -108,6 +108,14 @@ fn net_and_offset(calculations: [&dyn Calls; 2], case: &Case) -> Option<String> 
     )
 }
 
+/// Shows the refusal of the first book with both calculations.
+fn shortest(calculations: [&dyn Calls; 2], case: &Case) -> Option<String> {
+    let room = case.shortest_room;
+    writing("shortest", calculations, room, |calls, out, result| {
+        calls.shortest(&case.a, out, result);
+    })
+}
+
 /// Compares document 01's table by both calculations.
 fn table(library: &dyn Calls, other: &dyn Calls) -> Option<String> {
     let (mut ours, mut theirs) = ([0x5a; 36], [0xa5; 36]);
@@ -156,5 +164,6 @@ pub fn difference(library: &dyn Calls, other: &dyn Calls, case: &Case) -> Option
         .or_else(|| net(both, case))
         .or_else(|| offset(both, case))
         .or_else(|| net_and_offset(both, case))
+        .or_else(|| shortest(both, case))
         .or_else(|| table(library, other))
 }

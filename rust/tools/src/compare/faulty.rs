@@ -180,6 +180,10 @@ impl Calls for Faulty {
         Second.net_and_offset(book, out, result);
     }
 
+    fn shortest(&self, book: &[u8], out: &mut [u8], result: &mut [u64; 5]) {
+        Second.shortest(book, out, result);
+    }
+
     fn table(&self, out: &mut [u8; 36]) {
         Second.table(out);
     }

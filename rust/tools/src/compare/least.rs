@@ -7,6 +7,7 @@ use super::net_joins::NetJoins;
 use super::nets::Nets;
 use super::offsets::Offsets;
 use super::premises::Premises;
+use super::shortest::Shown;
 use super::small_banks::SmallBanks;
 use super::tables::Tables;
 use super::tally::Tally;
@@ -97,6 +98,21 @@ const LEAST: Tally = Tally {
         hidden: [130, 16],
         rooms: [1_600, 1_240, 540, 120],
         costs: [35, 24],
+    },
+    shown: Shown {
+        accepted: [1_780, 3_060],
+        contents: [23, 37, 17, 76, 31, 217],
+        rows: [
+            [42, 18, 14, 15, 35, 20],
+            [18, 29, 20, 19, 17, 13],
+            [20, 32, 22, 19, 19, 13],
+            [21, 34, 10, 20, 19, 17],
+        ],
+        notes: 102,
+        places: [196, 158, 176, 111],
+        several: [65, 73],
+        lengths: [1_920, 410, 475, 390, 550, 386],
+        rooms: [121, 223, 64, 280, 370, 130],
     },
 };
 
@@ -197,6 +213,7 @@ mod tests {
         every_net_has_a_minimum();
         every_offset_has_a_minimum();
         both_have_a_minimum();
+        every_shown_refusal_has_a_minimum();
         for number in (1..=9).chain([15]) {
             let lacking = one_short(|tally| &mut tally.refused[number]);
             assert!(lacking[0].starts_with(&format!("books refused {number}: ")));
@@ -374,13 +391,50 @@ mod tests {
         }
     }
 
+    /// The same of refusals that are shown.
+    fn every_shown_refusal_has_a_minimum() {
+        let alone = |of: &dyn Fn(&mut Shown) -> &mut u64, name: &str| {
+            let lacking = one_short(|tally| of(&mut tally.shown));
+            assert_eq!(lacking.len(), 1, "{name}");
+            assert!(lacking[0].starts_with(name), "{lacking:?}");
+        };
+        for at in 0..LEAST.shown.accepted.len() {
+            alone(&|shown| &mut shown.accepted[at], "accepted and not shown, ");
+        }
+        for (at, number) in [1, 1, 2, 2, 3, 3].iter().enumerate() {
+            let name = format!("shown {number} ");
+            alone(&|shown| &mut shown.contents[at], &name);
+        }
+        for (class, name) in ["interest", "equity", "fx", "commodity"].iter().enumerate() {
+            for number in 4..=9 {
+                let name = format!("shown {number} of {name}: ");
+                alone(&|shown| &mut shown.rows[class][number - 4], &name);
+            }
+        }
+        alone(&|shown| &mut shown.notes, "shown 15: ");
+        for at in 0..LEAST.shown.places.len() {
+            alone(&|shown| &mut shown.places[at], "rows shown that stand ");
+        }
+        for at in 0..LEAST.shown.several.len() {
+            let name = "rows shown before another bad one ";
+            alone(&|shown| &mut shown.several[at], name);
+        }
+        for (at, length) in [0, 7, 8, 23, 24, 25].iter().enumerate() {
+            let name = format!("outputs to show of {length}: ");
+            alone(&|shown| &mut shown.lengths[at], &name);
+        }
+        for at in 0..LEAST.shown.rooms.len() {
+            alone(&|shown| &mut shown.rooms[at], "outputs to show ");
+        }
+    }
+
     /// Catches minimums that do not follow the count of the run.
     #[test]
     fn minimums_follow_the_count() {
         let nothing = Tally::default();
         assert_eq!(
             nothing.lacking(20_000).len(),
-            12 + 9 + 18 + 10 + 12 + 21 + 47 + 34 + 26
+            12 + 9 + 18 + 10 + 12 + 21 + 47 + 34 + 26 + 51
         );
         assert!(LEAST.lacking(20_100).len() > 10);
         let half = nothing.lacking(10_000);
@@ -388,7 +442,7 @@ mod tests {
         // Few cases may miss the rarest, and very few may miss anything.
         assert_eq!(
             nothing.lacking(9_999).len(),
-            12 + 9 + 18 + 10 + 11 + 20 + 42 + 32 + 24
+            12 + 9 + 18 + 10 + 11 + 20 + 42 + 32 + 24 + 33
         );
         assert_eq!(nothing.lacking(41), [""; 0]);
     }

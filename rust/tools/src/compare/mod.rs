@@ -29,6 +29,8 @@ mod misread_net;
 #[cfg(test)]
 mod misread_offset;
 #[cfg(test)]
+mod misread_shortest;
+#[cfg(test)]
 mod misread_small;
 #[cfg(test)]
 mod misread_tables;
@@ -45,6 +47,11 @@ mod offset_sorts;
 mod offsets;
 mod premises;
 mod run;
+mod shortest;
+mod shortest_laws;
+#[cfg(test)]
+mod shortest_readings;
+mod shortest_sorts;
 mod shown;
 mod shrink;
 mod small_banks;
@@ -67,6 +74,8 @@ mod wrong_net;
 #[cfg(test)]
 mod wrong_offset;
 #[cfg(test)]
+mod wrong_shortest;
+#[cfg(test)]
 mod wrong_small;
 #[cfg(test)]
 mod wrong_tables;
@@ -81,7 +90,7 @@ pub const COMMAND: Command = Command {
     help: "market-risk compare [--seed S] [--count N] [--first K]
 
 Makes N pairs of random and damaged books from seed S and holds the proved library to
-the second calculation: all ten calls, every entry of every result and every byte of
+the second calculation: all eleven calls, every entry of every result and every byte of
 every output. Each pair has one table: document 01's, another that is accepted, or one that
 is refused. Demand 3 is sampled too: a reordered, mirrored, or reordered and mirrored book
 has the same report; a joined book takes as many rows as its two parts and, with at most
@@ -97,9 +106,12 @@ and with at most two zones used in each currency before netting, a netted join c
 two netted books together. Netting takes at most n(n - 1)/2 comparisons of n rows. A book that was
 offset is accepted, has all rows that are no swap legs in their order, no two rows that fit, and
 stays as it is when it is offset again. Netting and offsetting in one call leave what the two calls
-leave one after the other, and given that book once more the call changes nothing. In every fourth
-pair rows share issue numbers, every eighth is of swap legs, and every sixteenth of legs that share
-issue numbers.
+leave one after the other, and given that book once more the call changes nothing. The shortest file
+that shows a refusal is refused with the same number in its first row, under document 01's table and
+under that of the pair; it is no longer than the book, files that are shorter are refused with other
+numbers, and it is its own shortest file. In every fourth pair rows share issue numbers, every eighth
+is of swap legs, every sixteenth of legs that share issue numbers, and every sixteenth of files that
+are refused.
 
 On a difference it prints the smallest books that it can find, in hex and as CSV, with the
 table next to document 01's, and stops with exit status 1. It also fails when the pairs
@@ -119,8 +131,10 @@ rows, and books that were offset, with legs that fit at each limit, with rows th
 thing alone, in chains, for less and for more, into outputs of each length and refused with each
 number, and books netted and offset, with more pairs and with fewer than before they were netted,
 for less and for more than in the other order, into outputs of each length, some too short
-for the netted book, refused with each number, and with 13 and 14 that the other order hides, must
-come up in proportion to N.
+for the netted book, refused with each number, and with 13 and 14 that the other order hides, and
+refusals that are shown, each number of a row in each class, at each place and before other bad rows,
+contents of each sort, and accepted books, into outputs of each length, must come up in proportion
+to N.
 
   --seed S    the seed, 1 if not given
   --count N   how many pairs, 20000 if not given

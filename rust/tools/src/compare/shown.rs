@@ -31,6 +31,7 @@ impl fmt::Display for Case {
     fn fmt(&self, out: &mut fmt::Formatter) -> fmt::Result {
         let (group, room) = (self.group, self.room);
         let (net, offset, both) = (self.net_room, self.offset_room, self.both_room);
+        let shortest = self.shortest_room;
         let (a, b, table) = (
             show("A", &self.a),
             show("B", &self.b),
@@ -38,8 +39,8 @@ impl fmt::Display for Case {
         );
         write!(
             out,
-            "group {group}, outputs of {room} bytes to join, {net} to net, {offset} to offset and {both} \
-             for both\n{table}{a}{b}"
+            "group {group}, outputs of {room} bytes to join, {net} to net, {offset} to offset, {both} \
+             for both and {shortest} to show the refusal\n{table}{a}{b}"
         )
     }
 }

@@ -10,6 +10,11 @@ const MOST_TRIES: usize = 10_000;
 /// What is written of a book, or why nothing is.
 type Written = Result<Vec<u8>, second::Refusal>;
 
+/// The shortest file that shows a book's refusal, or no bytes of an accepted one.
+fn shown(book: &[u8]) -> Written {
+    Ok(second::shortest_file(book).unwrap_or_default())
+}
+
 /// An output for a first book cut to another: it keeps its distance from what is written, if
 /// anything is.
 fn room(room: usize, whole: &Written, cut: Written) -> usize {
@@ -38,9 +43,11 @@ fn plainer(case: &Case) -> impl Iterator<Item = Case> + '_ {
         with(|case| case.net_room = 0),
         with(|case| case.offset_room = 0),
         with(|case| case.both_room = 0),
+        with(|case| case.shortest_room = 0),
         with(|case| shorten(&mut case.net_room, second::netted(&case.a))),
         with(|case| shorten(&mut case.offset_room, second::offset_book(&case.a))),
         with(|case| shorten(&mut case.both_room, second::net_and_offset_book(&case.a))),
+        with(|case| shorten(&mut case.shortest_room, shown(&case.a))),
         // A ladder's own rows leave their group with it.
         with(|case| {
             case.group = 0;
@@ -59,12 +66,13 @@ fn smaller(case: &Case) -> impl Iterator<Item = Case> + '_ {
         ..case.clone()
     });
     let (netted, offset) = (second::netted(&case.a), second::offset_book(&case.a));
-    let both = second::net_and_offset_book(&case.a);
+    let (both, file) = (second::net_and_offset_book(&case.a), shown(&case.a));
     let of_a = cuts(&case.a).map(move |a| Case {
         room: case.room.saturating_sub(less(&case.a, &a)),
         net_room: room(case.net_room, &netted, second::netted(&a)),
         offset_room: room(case.offset_room, &offset, second::offset_book(&a)),
         both_room: room(case.both_room, &both, second::net_and_offset_book(&a)),
+        shortest_room: room(case.shortest_room, &file, shown(&a)),
         a,
         ..case.clone()
     });
@@ -119,6 +127,7 @@ mod tests {
             net_room: 500,
             offset_room: 500,
             both_room: 500,
+            shortest_room: 500,
             order: 1,
         }
     }
@@ -136,8 +145,9 @@ mod tests {
         assert_eq!(book.rows(), 2);
         assert_eq!(book.classes[3], [plain; 2]);
         let left = (smallest.b.len(), smallest.group, smallest.room);
-        let outputs = [smallest.net_room, smallest.offset_room, smallest.both_room];
-        assert_eq!((left, outputs), ((0, 0, 0), [0; 3]));
+        let outputs = [smallest.net_room, smallest.offset_room];
+        let more = [smallest.both_room, smallest.shortest_room];
+        assert_eq!((left, outputs, more), ((0, 0, 0), [0; 2], [0; 2]));
         assert_eq!(smallest.table, second::table());
     }
 

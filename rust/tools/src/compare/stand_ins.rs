@@ -8,7 +8,7 @@ use crate::cli::{Args, Failure};
 use books::legs::LEG;
 use books::Book;
 
-/// The ten calls.
+/// The eleven calls.
 #[derive(Clone, Copy, Debug, PartialEq)]
 enum Call {
     Check,
@@ -20,10 +20,11 @@ enum Call {
     Net,
     Offset,
     NetAndOffset,
+    Shortest,
     Table,
 }
 
-const CALLS: [Call; 10] = [
+const CALLS: [Call; 11] = [
     Call::Check,
     Call::Charge,
     Call::InterestLadder,
@@ -33,6 +34,7 @@ const CALLS: [Call; 10] = [
     Call::Net,
     Call::Offset,
     Call::NetAndOffset,
+    Call::Shortest,
     Call::Table,
 ];
 
@@ -107,6 +109,11 @@ impl Calls for StandIn<'_> {
     fn net_and_offset(&self, book: &[u8], out: &mut [u8], result: &mut [u64; 5]) {
         self.write(Call::NetAndOffset, out, result, |out, result| {
             Second.net_and_offset(book, out, result);
+        });
+    }
+    fn shortest(&self, book: &[u8], out: &mut [u8], result: &mut [u64; 5]) {
+        self.write(Call::Shortest, out, result, |out, result| {
+            Second.shortest(book, out, result);
         });
     }
     fn table(&self, out: &mut [u8; 36]) {
@@ -186,6 +193,7 @@ fn a_run_that_has_seen_too_little_fails() {
         net_room: 8,
         offset_room: 8,
         both_room: 8,
+        shortest_room: 8,
         order: 0,
     };
     let message = failure(&empty);
@@ -206,6 +214,8 @@ fn a_run_that_has_seen_too_little_fails() {
     assert!(message.contains("\nbooks with legs that fit 7 days apart: 0 where"));
     assert!(message.contains("\nbooks with rows that miss by the 31st day: 0 where"));
     assert!(message.contains("\nbooks netted and offset with an issue and a pair: 0 where"));
+    assert!(message.contains("\nshown 6 of commodity: 0 where at least 10 are wanted\n"));
+    assert!(message.contains("\noutputs to show of 7: 0 where"));
     assert!(message.contains("\ntables refused 18: 0 where"));
     assert!(message.contains("\ntables refused for 1-3 above 100 alone: 0 where"));
     assert!(!message.contains("books accepted: "), "{message}");
@@ -301,6 +311,13 @@ fn without_legs(seed: u64, number: u64) -> Case {
     }
 }
 
+/// A case of a seed, but none whose first book is refused for a row.
+fn without_bad_rows(seed: u64, number: u64) -> Case {
+    let mut cases = (0..).map(|turn| Case::new(seed + turn, number + 16 * turn));
+    let wanted = cases.find(|case| second::check(&case.a).number < 4);
+    wanted.expect("most cases are accepted")
+}
+
 /// What a run of 4,000 cases of a kind lacks.
 fn lacking(cases: fn(u64, u64) -> Case) -> Vec<String> {
     let none = StandIn {
@@ -338,15 +355,17 @@ fn a_run_without_amounts_carried_fails() {
 #[test]
 fn a_run_without_notes_fails() {
     let lacking = lacking(without_notes);
-    let about_notes =
-        |line: &&String| line.contains("floating rates") || line.contains("refused 15");
+    let about_notes = |line: &&String| {
+        let words = ["floating rates", "refused 15", "shown 15"];
+        words.iter().any(|words| line.contains(words))
+    };
     assert_eq!(
         lacking.iter().filter(about_notes).count(),
-        12,
+        13,
         "{lacking:?}"
     );
     assert!(lacking.iter().all(|line| line.contains(": 0 where")));
-    assert_eq!(lacking.len(), 12, "{lacking:?}");
+    assert_eq!(lacking.len(), 13, "{lacking:?}");
 }
 
 /// Catches a run in which every first book has interest or equity rows: no figure of a small bank
@@ -400,4 +419,14 @@ fn a_run_without_legs_fails() {
     };
     assert_eq!(lacking.iter().filter(about).count(), 16, "{lacking:?}");
     assert_eq!(lacking.len(), 16, "{lacking:?}");
+}
+
+/// Catches a run that has shown no bad row: nothing was copied out of a book, at any place, and no
+/// output had room for a row or missed it by a byte.
+#[test]
+fn a_run_without_bad_rows_fails() {
+    let mut lacking = lacking(without_bad_rows);
+    lacking.retain(|line| line.contains("shown ") || line.contains(" for a row: "));
+    assert!(lacking.iter().all(|line| line.contains(": 0 where")));
+    assert_eq!(lacking.len(), 1 + 4 + 2 + 3, "{lacking:?}");
 }

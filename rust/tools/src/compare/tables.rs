@@ -158,6 +158,7 @@ mod tests {
             room: 0,
             net_room: 0,
             both_room: 0,
+            shortest_room: 0,
             offset_room: 0,
             order: 0,
         });

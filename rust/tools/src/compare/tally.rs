@@ -8,6 +8,7 @@ use super::net_joins::NetJoins;
 use super::nets::Nets;
 use super::offsets::Offsets;
 use super::premises::Premises;
+use super::shortest::Shown;
 use super::small_banks::SmallBanks;
 use super::tables::Tables;
 use std::fmt;
@@ -41,6 +42,7 @@ pub struct Tally {
     pub net_joins: NetJoins,
     pub offsets: Offsets,
     pub both: Both,
+    pub shown: Shown,
 }
 
 impl Tally {
@@ -59,6 +61,7 @@ impl Tally {
         self.comparisons.count(case);
         self.offsets.count(case);
         self.both.count(case);
+        self.shown.count(case);
         self.ladder_refused += u64::from(case.group > 31);
         self.tables.count(case);
         let charged = second::read_table(&case.table).is_ok();
@@ -117,6 +120,7 @@ impl Tally {
         counts.extend(self.net_joins.named());
         counts.extend(self.offsets.named());
         counts.extend(self.both.named());
+        counts.extend(self.shown.named());
         counts.extend(numbered("books refused", &self.refused));
         counts.extend(numbered("joins refused", &self.joins));
         counts
@@ -154,6 +158,7 @@ impl fmt::Display for Tally {
         writeln!(out, "{}", self.net_joins)?;
         writeln!(out, "{}", self.offsets)?;
         writeln!(out, "{}", self.both)?;
+        writeln!(out, "{}", self.shown)?;
         writeln!(
             out,
             "joins refused {not_joined}, for the second book {}",
@@ -190,6 +195,7 @@ mod tests {
             net_room: 1_000,
             offset_room: 1_000,
             both_room: 1_000,
+            shortest_room: 1_000,
             order: 0,
         });
         tally

@@ -157,7 +157,7 @@ fn a_difference_is_shown_with_a_small_book() {
     )));
     assert!(
         text.contains(
-            " to net, 0 to offset and 0 for both\ndocument 01's table\nbook A, 24 bytes: "
+            " to net, 0 to offset, 0 for both and 0 to show the refusal\ndocument 01's table\nbook A, 24 bytes: "
         ),
         "{text}"
     );
@@ -230,6 +230,7 @@ fn case(a: &[Row], b: &[Row]) -> Case {
         net_room: 1_000,
         offset_room: 1_000,
         both_room: 1_000,
+        shortest_room: 1_000,
         order: 0,
     }
 }

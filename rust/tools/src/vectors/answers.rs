@@ -68,6 +68,10 @@ fn answer(by: &dyn Calls, case: &Case) -> (&'static str, Vec<u64>) {
             "net-and-offset",
             writing(*room, |out, result| by.net_and_offset(book, out, result)),
         ),
+        Call::Shortest { room } => (
+            "shortest",
+            writing(*room, |out, result| by.shortest(book, out, result)),
+        ),
         Call::SmallBank => {
             by.small_bank(book, &mut small_bank);
             ("small-bank", small_bank.to_vec())
@@ -98,7 +102,7 @@ fn lines_by(by: &dyn Calls, cases: &[Case]) -> String {
 #[cfg(test)]
 mod tests {
     use super::super::build::{call, charge_by, join, ladder_by, net, net_and_offset, offset};
-    use super::super::build::{row, small_bank};
+    use super::super::build::{row, shortest, small_bank};
     use super::*;
     use crate::calls::Proved;
 
@@ -201,6 +205,37 @@ mod tests {
         let expected = format!(
             "net-and-offset 0 0 0 24 1 {left}\n\
              net-and-offset 12 0 0 0 0 {short}\n"
+        );
+        assert_eq!(lines(&cases), expected);
+    }
+
+    /// The shortest file: a share with a day, alone, and one byte past it; no room for it; nothing of
+    /// seven bytes and of an accepted book, which the mark tells apart.
+    #[test]
+    fn lines_of_the_shortest_file_have_every_figure() {
+        let rows = [row(3, 1, 0, 0, 5), row(3, 1, 1, 0, 5)];
+        let book = super::super::build::only(1, &rows);
+        let cases = [
+            shortest(&book, 25),
+            shortest(&book, 23),
+            shortest(&[7; 7], 0),
+            shortest(&[0; 8], 8),
+            shortest(&[0; 9], 8),
+        ];
+        let share = [&[0, 0, 1, 0, 0, 0, 0, 0][..], &book[24..], &[0xa5]].concat();
+        let outs = [
+            &share[..],
+            &[0xa5; 23],
+            &[0xa5; 8],
+            &[1, 0, 0, 0, 0, 0, 0, 0],
+        ];
+        let [share, short, kept, one] = outs.map(checksum);
+        let expected = format!(
+            "shortest 0 0 0 24 0 {share}\n\
+             shortest 12 0 0 0 0 {short}\n\
+             shortest 0 0 0 0 0 0\n\
+             shortest 0 0 0 0 1 {kept}\n\
+             shortest 0 0 0 8 0 {one}\n"
         );
         assert_eq!(lines(&cases), expected);
     }

@@ -18,6 +18,7 @@ pub enum Call {
     Net { room: u32 },
     Offset { room: u32 },
     NetAndOffset { room: u32 },
+    Shortest { room: u32 },
 }
 
 /// One stored call.
@@ -73,6 +74,12 @@ pub fn offset(book: &[u8], room: usize) -> Case {
 pub fn net_and_offset(book: &[u8], room: usize) -> Case {
     let room = length(room);
     call(Call::NetAndOffset { room }, book)
+}
+
+/// The shortest file that shows a book's refusal, with so much room.
+pub fn shortest(book: &[u8], room: usize) -> Case {
+    let room = length(room);
+    call(Call::Shortest { room }, book)
 }
 
 /// A call that writes a book of so many bytes, into an output of every length that matters.

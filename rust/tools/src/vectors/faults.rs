@@ -44,7 +44,7 @@ fn one_bad_row() -> Vec<Vec<u8>> {
 }
 
 /// Books with several faults at once.
-fn several() -> Vec<Vec<u8>> {
+pub fn several() -> Vec<Vec<u8>> {
     // Each row is cured of one more fault, in the order of trying.
     let all = row(32, 9, 36_001, 10_001, 1).with_sides(2_000_000_000, 1);
     let group = all.with_group(31);

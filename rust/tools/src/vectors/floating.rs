@@ -90,7 +90,7 @@ fn one_broken() -> Vec<Vec<u8>> {
 
 /// A broken note whose row has other faults, cured of one more in the order of trying: 4, 5, 15,
 /// 8, 9; and bad rows before a broken note and after it.
-fn several_faults() -> Vec<Vec<u8>> {
+pub fn several_faults() -> Vec<Vec<u8>> {
     let all = row(32, 5, 361, 36_001, 1).with_sides(2_000_000_000, 1);
     let group = all.with_group(31);
     let kind = group.with_kind(FLOATING);
@@ -118,7 +118,7 @@ fn several_faults() -> Vec<Vec<u8>> {
 }
 
 /// Kind 4 in the other classes, whole as a note or broken: it is 5 there.
-fn other_classes() -> Vec<Vec<u8>> {
+pub fn other_classes() -> Vec<Vec<u8>> {
     let mut books = Vec::new();
     for class in 1..4 {
         for [days, coupon] in [[0, 0], [90, 2880], [361, 361], [90, 36_001], [90, 89]] {

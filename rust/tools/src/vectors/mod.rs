@@ -22,6 +22,8 @@ mod offsets;
 #[cfg(test)]
 mod page;
 mod random;
+mod shortest;
+mod shortest_rows;
 mod small_banks;
 mod small_faults;
 mod stream;
@@ -74,6 +76,8 @@ fn cases(seed: u64) -> Vec<Case> {
         offset_faults::cases(),
         net_and_offset::cases(seed),
         net_and_offset_faults::cases(),
+        shortest::cases(seed),
+        shortest_rows::cases(),
     ]
     .concat()
 }
@@ -130,7 +134,7 @@ mod tests {
         }));
         assert!(books.len() >= 300, "{} books", books.len());
         let [(_, stdin), (_, stdout)] = files(1);
-        assert!(stdin.len() < 510_000, "{} bytes", stdin.len());
+        assert!(stdin.len() < 530_000, "{} bytes", stdin.len());
         assert!(stdout.len() < 300_000, "{} bytes", stdout.len());
     }
 
@@ -175,6 +179,37 @@ mod tests {
         assert!([10, 11, 13, 14]
             .iter()
             .all(|number| !seen("offset", *number)));
+        // A book's own refusal is none of the call that shows it.
+        for number in 0..=22 {
+            assert_eq!(seen("shortest", number), [0, 12].contains(&number));
+        }
+    }
+
+    /// Every number that a book is refused with is shown, where there is room for it and where there
+    /// is none, and so are books that are accepted.
+    #[test]
+    fn the_shortest_file_is_written_of_every_refusal() {
+        let mut seen = HashSet::new();
+        for case in cases(1) {
+            if let Call::Shortest { room } = case.call {
+                let number = second::check(&case.book).number;
+                let shown = second::shortest_file(&case.book).map(|shown| shown.len());
+                seen.insert((number, shown.unwrap_or(0).cmp(&(room as usize))));
+            }
+        }
+        use std::cmp::Ordering::{Equal, Greater, Less};
+        for number in [0, 1] {
+            assert!([Equal, Less]
+                .iter()
+                .all(|room| seen.contains(&(number, *room))));
+        }
+        for number in (2..=9).chain([15]) {
+            let rooms = [Equal, Less, Greater];
+            assert!(
+                rooms.iter().all(|room| seen.contains(&(number, *room))),
+                "{number}"
+            );
+        }
     }
 
     #[test]

@@ -59,13 +59,14 @@ impl Reader<'_> {
             let room = room as u32;
             return Some(call(Call::Join { other, room }, &book));
         }
-        if (10..=12).contains(&tag) {
+        if (10..=13).contains(&tag) {
             let (room, length) = (self.number(4) as u32, self.number(4));
             let book = self.book(length, runs);
             return Some(match tag {
                 10 => call(Call::Net { room }, &book),
                 11 => call(Call::Offset { room }, &book),
-                _ => call(Call::NetAndOffset { room }, &book),
+                12 => call(Call::NetAndOffset { room }, &book),
+                _ => call(Call::Shortest { room }, &book),
             });
         }
         let table = match tag {
@@ -125,8 +126,8 @@ fn thousands(number: usize) -> String {
 }
 
 /// What the page says of the random books and tables.
-fn randoms() -> [String; 7] {
-    use super::{loaded, net_and_offset, nets, offsets, random, small_banks};
+fn randoms() -> [String; 8] {
+    use super::{loaded, net_and_offset, nets, offsets, random, shortest, small_banks};
     let (books, tables) = (loaded::BOOKS, loaded::TABLES);
     [
         format!("- {} random books of the seed, each damaged", random::BOOKS),
@@ -144,6 +145,10 @@ fn randoms() -> [String; 7] {
         format!(
             "- {} random books of legs that share issues of the seed",
             net_and_offset::BOOKS
+        ),
+        format!(
+            "- {} random books of the seed and the shortest files that show their refusals",
+            shortest::BOOKS
         ),
     ]
 }

@@ -81,6 +81,7 @@ fn record(case: &Case) -> Vec<u8> {
         Call::Net { room } => of_writing(10, book, *room),
         Call::Offset { room } => of_writing(11, book, *room),
         Call::NetAndOffset { room } => of_writing(12, book, *room),
+        Call::Shortest { room } => of_writing(13, book, *room),
     }
 }
 
@@ -93,8 +94,8 @@ pub fn encode(cases: &[Case]) -> Vec<u8> {
 
 #[cfg(test)]
 mod tests {
-    use super::super::build::small_bank;
     use super::super::build::{call, charge_by, ladder_by, net, net_and_offset, offset};
+    use super::super::build::{shortest, small_bank};
     use super::super::cases;
     use super::super::page::read;
     use super::*;
@@ -114,7 +115,10 @@ mod tests {
                 Call::Join { other, room } => {
                     assert!(other.len() <= 65_536 && *room <= 65_536);
                 }
-                Call::Net { room } | Call::Offset { room } | Call::NetAndOffset { room } => {
+                Call::Net { room }
+                | Call::Offset { room }
+                | Call::NetAndOffset { room }
+                | Call::Shortest { room } => {
                     assert!(*room <= 65_536);
                 }
                 Call::ChargeBy { table } | Call::InterestLadderBy { table, .. } => {
@@ -165,6 +169,7 @@ mod tests {
         of(net, 10);
         of(offset, 11);
         of(net_and_offset, 12);
+        of(shortest, 13);
     }
 
     #[test]

@@ -8,8 +8,8 @@ use std::process::{Command, Output};
 use std::sync::OnceLock;
 use std::{env, fs};
 
-/// The ten calls, as the C interface names them.
-pub const CALLS: [&str; 10] = [
+/// The eleven calls, as the C interface names them.
+pub const CALLS: [&str; 11] = [
     "check",
     "charge",
     "interest_ladder",
@@ -19,6 +19,7 @@ pub const CALLS: [&str; 10] = [
     "net",
     "offset",
     "net_and_offset",
+    "shortest",
     "table",
 ];
 
@@ -36,7 +37,14 @@ fn build(command: &mut Command) {
 }
 
 /// The files of the stand-in.
-const SOURCES: [&str; 5] = ["stand_in", "small_bank", "net", "offset", "net_and_offset"];
+const SOURCES: [&str; 6] = [
+    "stand_in",
+    "small_bank",
+    "net",
+    "offset",
+    "net_and_offset",
+    "shortest",
+];
 
 /// Compiles a file of the stand-in into a folder and gives the object.
 fn object(folder: &str, name: &str) -> String {

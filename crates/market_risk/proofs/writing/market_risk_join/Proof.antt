@@ -2,8 +2,8 @@
 use mathlib.Core.Path.{ap}
 use borrow.Author.Needs.{needs}
 use Rattle.market_risk.specs.Entries.{refusalEntries, joinedEntries}
-use Rattle.market_risk.proofs.market_risk_join.Statement.{statement}
-use Rattle.market_risk.proofs.market_risk_join.Tie as tie
+use Rattle.market_risk.proofs.writing.market_risk_join.Statement.{statement}
+use Rattle.market_risk.proofs.writing.market_risk_join.Tie as tie
 
 returns : tie.Need-returns
 unfolding refusalEntries joinedEntries

@@ -2,8 +2,8 @@
 use mathlib.Core.Path.{ap}
 use borrow.Author.Needs.{needs}
 use Rattle.market_risk.specs.Entries.{refusalEntries, writtenEntries}
-use Rattle.market_risk.proofs.market_risk_offset.Statement.{statement}
-use Rattle.market_risk.proofs.market_risk_offset.Tie as tie
+use Rattle.market_risk.proofs.writing.market_risk_offset.Statement.{statement}
+use Rattle.market_risk.proofs.writing.market_risk_offset.Tie as tie
 
 returns : tie.Need-returns
 unfolding refusalEntries writtenEntries
