@@ -79,6 +79,9 @@ static void net_and_offset(void) { market_risk_net_and_offset(both, sizeof both,
 
 static void shortest(void) { market_risk_shortest(bad, sizeof bad, joined, sizeof joined, out); }
 
+/* As many rows as there can be. */
+static void dearest(void) { market_risk_dearest(4 * ROWS, 1000000000, joined, sizeof joined, out); }
+
 static size_t used(void (*call)(void))
 {
     ucontext_t here, there;
@@ -114,5 +117,6 @@ int main(void)
     refused += print_used("commodity_ladder", commodity_ladder) + print_used("small_bank", small_bank);
     refused += print_used("join", join) + print_used("net", net);
     refused += print_used("offset", offset) + print_used("net_and_offset", net_and_offset);
-    return refused + print_used("shortest", shortest);
+    refused += print_used("shortest", shortest);
+    return refused + print_used("dearest", dearest);
 }

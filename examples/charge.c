@@ -4,7 +4,7 @@
  * commodities, those of one bond, long and short, before it is netted and after, those of
  * three swap legs, before they offset each other and after, in two orders, and those of legs
  * of one issue, netted and offset in one call. Last the shortest files that show why books are
- * refused.
+ * refused, and the dearest books of some rows of at most an amount.
  *
  *     cc -Wall -Wextra -Werror -Iinclude examples/charge.c target/staticlib/libmarket_risk.a -o charge
  */
@@ -242,6 +242,21 @@ static void print_shortest(const char *name, const uint8_t *book, size_t len)
     }
 }
 
+/* Charges the dearest book of some rows of at most an amount, and prints the total that is told of it. There is room for two rows. */
+static void print_dearest(const char *name, size_t rows, size_t most)
+{
+    uint8_t book[8 + 2 * 16];
+    uint64_t result[5];
+
+    market_risk_dearest(rows, most, book, sizeof book, result);
+    if (result[0] != 0) {
+        printf("%s\nrefused %" PRIu64 "\n", name, result[0]);
+        return;
+    }
+    print_report(name, book, result[3]);
+    printf("told %" PRIu64 "\n", result[4]);
+}
+
 int main(void)
 {
     static const uint8_t zeros[8 + 1];
@@ -287,5 +302,10 @@ int main(void)
     print_shortest("book without rows and a byte too long, shown", zeros, sizeof zeros);
     print_shortest("book of seven bytes, shown", zeros, 7);
     print_shortest("book of four classes, shown", classes, sizeof classes);
+    print_dearest("dearest book of two rows of at most 100", 2, 100);
+    print_dearest("dearest book without rows", 0, 1);
+    print_dearest("dearest book of three rows, for which there is no room", 3, 100);
+    print_dearest("dearest book of 4,001 rows", 4001, 100);
+    print_dearest("dearest book of two rows of at most 0", 2, 0);
     return 0;
 }

@@ -8,7 +8,8 @@
  *     number   0 when the call is accepted, else document 01's number, 1 to 12, or one of
  *              document 02: 13 and 14, an issue that cannot be netted; 15, a floating-rate note
  *              with fixing over 360 days, or final maturity over 36,000 or before fixing; 18 and
- *              19, a refused table; 20, interest or equity rows in a small bank's book
+ *              19, a refused table; 20, interest or equity rows in a small bank's book; 22, a
+ *              dearest book of too many rows or of an amount out of its range
  *     row      the refused row, counted from 0 through the whole file; 0 for all but 4 to 9
  *              and 13 to 15
  *     book     1 for a fault of the second book of a join, else 0
@@ -45,6 +46,7 @@
  *     market_risk_offset           65000
  *     market_risk_net_and_offset   82000
  *     market_risk_shortest           200
+ *     market_risk_dearest            100
  *
  * The charge, the small bank, netting and offsetting call memset. Where the loader binds it at its
  * first call, that takes some 3000 bytes more, once.
@@ -171,6 +173,26 @@ void market_risk_net_and_offset(const uint8_t *book, size_t len, uint8_t *out, s
  * 0 where it is not. */
 void market_risk_shortest(const uint8_t *book, size_t len, uint8_t *out, size_t out_len,
                           uint64_t result[5]);
+
+/* Writes the dearest book of so many rows, each of an amount of at most so many thousands, to the front
+ * of out, which has out_len bytes: no accepted book of as many rows, each of at most as much, costs more
+ * under market_risk_table's table. Its rows are all alike: interest, currency 0, kind 3 (other), 36,000
+ * days, coupon 0, issue 0, long most. Other books can be as dear, and none is dearer. Its length is
+ * 8 + 16 * rows, and its total, which market_risk_charge gives for it, 205000 * rows * most mils: all
+ * that a book within these limits can cost. Limits of one class follow in the same way: a unit of amount, a
+ * thousand, costs at most, in mils, whatever stands beside it,
+ *     interest          205000    80000 specific, 125000 general
+ *     equity            160000    80000 specific, 80000 general
+ *     foreign exchange   80000
+ *     commodities       186000    150000 for what is left, 36000 for being carried six steps
+ * and in each class a row alone can cost so much. No rows are a book of eight zero bytes, which costs
+ * nothing. Bytes past the written book keep their values, and a refused call writes none. Tried in this
+ * order:
+ *     22   rows over 4,000, or most not from 1 to 1,000,000,000
+ *     12   an output shorter than the book
+ * result: number, row (0), book (0); the length of the written book; its total. */
+void market_risk_dearest(size_t rows, size_t most, uint8_t *out, size_t out_len,
+                         uint64_t result[5]);
 
 #ifdef __cplusplus
 }

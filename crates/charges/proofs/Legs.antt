@@ -24,8 +24,11 @@ unfoldable pub amounts : List Row → ℕ
 amounts rows = sumOf (λ row. row .long + row .short) rows
 
 -- a clean row has its amount on one side
+pub one-amount : (most class : ℕ) (row : Row) → Clean class row → row .long ≤ most → row .short ≤ most → row .long + row .short ≤ most
+one-amount most class row clean long short = ⊎-elim (λ h. omega arith) (λ h. omega arith) (clean .one-side)
+
 pub amount-within : (class : ℕ) (row : Row) → Clean class row → row .long + row .short ≤ mostAmount
-amount-within class row clean = ⊎-elim (λ h. omega (arith, clean .long)) (λ h. omega (arith, clean .short)) (clean .one-side)
+amount-within class row clean = one-amount mostAmount class row clean (clean .long) (clean .short)
 
 -- the amounts of a class's rows
 pub amounts-within : (class : ℕ) {rows : List Row} → Every (Clean class) rows → amounts rows ≤ mostAmount * length rows

@@ -15,4 +15,5 @@ pub mod Costs
 pub mod Taking
 pub mod Small
 pub mod Reporting
+pub mod StandardRates
 pub mod Reading

@@ -15,6 +15,7 @@ use Rattle.book.specs.Refusals.{refused, refusalOf}
 use Rattle.book.specs.Accepted.{Accepted}
 use Rattle.book.specs.Parts.{accepts}
 use Rattle.ladder.specs.declared.Table.{Table}
+use Rattle.ladder.specs.Table.{mostWeight}
 use Rattle.ladder.specs.Inner.Steps.{TableBounds}
 use Rattle.table.specs.Loaded.{tableRefusal, tableOf}
 use Rattle.charges.specs.Charges.{specificCharge, interestGeneral, equityGeneral, exchangeGeneral, commodityGeneral, interestRisk, equityRisk, byCurrency}
@@ -26,6 +27,7 @@ use Rattle.charges.proofs.Taking.{taken-refusal, taken-number, none-ref
 use Rattle.charges.proofs.Legs.{amounts-within, specific-within}
 use Rattle.charges.proofs.Rates.{interest-rate, equity-rate, exchange-rate, commodity-rate}
 use Rattle.charges.proofs.Currencies.{specifics-sum, generals-sum, currencies-many, currency-sum}
+use Rattle.book.proofs.Acceptance.{refused-with-none}
 use Rattle.book.proofs.ClassRows.{class-size, rows-clean}
 use Rattle.charges.proofs.Costs.{rows-grouped}
 
@@ -49,7 +51,7 @@ total-fits table ok s of =
       amounts-within 4 (rows-clean s of 4 (omega arith) (omega arith)),
       specific-within 1 (classRows s 1),
       specific-within 2 (classRows s 2),
-      interest-rate table ok (classRows s 1),
+      interest-rate table mostWeight (ok .weights) (ok .percents) (classRows s 1),
       equity-rate (classRows s 2),
       exchange-rate (classRows s 3),
       commodity-rate (classRows s 4),
@@ -91,6 +93,11 @@ table-refused table s number is bad = simp (← is, ne-eqb _ _ bad)
 pub table-loaded : (table s : List ℕ) → tableRefusal table ≡ 0 → reportBy (tableOf table) s ≡ reportOf table s
 unfolding reportOf reportBy before accepts
 table-loaded table s none = simp none
+
+-- the report of an accepted book, by an accepted table
+pub accepted-report : (table s : List ℕ) → tableRefusal table ≡ 0 → Accepted s → reportOf table s ≡ chargedReport (tableOf table) s
+unfolding reportOf before refused
+accepted-report table s fine ok = simp (fine, refused-with-none s ok)
 
 -- the six charges of a book
 pub record Six (table : Table) (s : List ℕ) (p g q h x y : ℕ) : Type 0 where

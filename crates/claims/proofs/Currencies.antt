@@ -20,13 +20,13 @@ use Rattle.charges.specs.Charges.{reading, specificCharge, interestGeneral, int
 use Rattle.charges.specs.Report.{classRows, reportWith, refusedReport, chargedReport, before, reportOf, ladderRefusal, interestLadderOf}
 use Rattle.charges.proofs.Currencies.{alone-general, specifics-sum, generals-sum, currency-entry, currency-sum}
 use Rattle.charges.proofs.Costs.{rows-grouped}
-use Rattle.charges.proofs.Reporting.{lists-sized}
+use Rattle.charges.proofs.Reporting.{lists-sized, accepted-report}
 use Rattle.join.proofs.Settling.{joins}
 use Rattle.join.proofs.JoinedBook.{joined-accepted}
 use Rattle.join.specs.Joined.{joined}
 use Rattle.claims.specs.Currencies.{Splitting, SplittingHolds, specificIn, generalIn, CurrencyNoDearer, CurrencyJoiningHolds}
 use Rattle.claims.proofs.Charging.{specific-alone-joined, general-alone-joined}
-use Rattle.claims.proofs.Joining.{accepted-report, book-written, joined-legs}
+use Rattle.claims.proofs.Joining.{book-written, joined-legs}
 
 -- ---- of an accepted table and book, and where either is refused
 -- nothing is refused where neither is

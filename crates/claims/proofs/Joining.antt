@@ -8,7 +8,7 @@ use lib.ListN.{length}
 use Rattle.sums.specs.Every.{none, also}
 use Rattle.sums.proofs.Spans.{in-span}
 use Rattle.book.specs.Rows.{rowsOf, decode}
-use Rattle.book.specs.Refusals.{lastGroup, refused}
+use Rattle.book.specs.Refusals.{lastGroup}
 use Rattle.book.specs.Accepted.{Accepted}
 use Rattle.book.proofs.Walking.{class-rows}
 use Rattle.book.proofs.Acceptance.{refused-with-none}
@@ -16,7 +16,8 @@ use Rattle.ladder.specs.Rows.{AtMostTwoZones}
 use Rattle.table.specs.Loaded.{tableRefusal, tableOf}
 use Rattle.table.proofs.Accepting.{described, accepted-table}
 use Rattle.charges.specs.Charges.{groups, reading, specificCharge, interestGeneral, equityGeneral, interestRisk, equityRisk, exchangeGeneral, commodityGeneral}
-use Rattle.charges.specs.Report.{classRows, reportWith, chargedReport, before, reportOf}
+use Rattle.charges.specs.Report.{classRows, reportWith, chargedReport, reportOf}
+use Rattle.charges.proofs.Reporting.{accepted-report}
 use Rattle.join.specs.Joined.{joined}
 use Rattle.join.proofs.Settling.{Joins, joins}
 use Rattle.join.proofs.JoinedBook.{joined-rows, joined-accepted}
@@ -25,11 +26,6 @@ use Rattle.market_risk.specs.Entries.{reportFigures}
 use Rattle.claims.specs.Zones.{TwoZonesEach}
 use Rattle.claims.specs.Demands.{AtMost, no-figures, figure, joinedBook, JoiningHolds}
 use Rattle.claims.proofs.Charging.{specific-joined, interest-joined, equity-joined, exchange-joined, commodities-joined}
-
--- the report of an accepted book, by an accepted table
-pub accepted-report : (table s : List ℕ) → tableRefusal table ≡ 0 → Accepted s → reportOf table s ≡ chargedReport (tableOf table) s
-unfolding reportOf before refused
-accepted-report table s fine a = simp (fine, refused-with-none s a)
 
 -- the bytes that join writes are the joined book
 pub book-written : (a b out : List ℕ) → Joins a b (length out) → joinedBook a b out ≡ joined a b

@@ -21,3 +21,5 @@ pub mod NetOffset
 pub mod OrderBooks
 pub mod Shortest
 pub mod ShortestBooks
+pub mod Dearest
+pub mod DearestBooks

@@ -25,6 +25,7 @@ use Rattle.table.specs.Loaded.{tableRefusal, tableOf}
 use Rattle.charges.specs.Bands.{lowCoupon, interestBand, bandIn}
 use Rattle.charges.specs.Charges.{reading, interestRisk, equityRisk}
 use Rattle.charges.specs.Report.{classRows, reportWith, chargedReport, reportOf}
+use Rattle.charges.proofs.Reporting.{accepted-report}
 use Rattle.book.proofs.ClassRows.{rows-clean}
 use Rattle.join.specs.Joined.{addedCounts, joinedCounts, joined}
 use Rattle.join.proofs.Settling.{Joins, joins, not-refused}
@@ -36,7 +37,7 @@ use Rattle.claims.specs.Demands.{Within, all-within, one-within, AtMost,
 use Rattle.claims.specs.Netting.{Nettable, NettingHolds, NettedJoiningHolds}
 use Rattle.claims.proofs.Writing.{neither-refused, classes-each, book-bytes, book-counts, fewer-rows, fewer-accepted}
 use Rattle.claims.proofs.Thinner.{specific-thins, interest-thins, equity-thins, exchange-thins, commodities-thin}
-use Rattle.claims.proofs.Joining.{accepted-report, book-written, joined-legs, joining}
+use Rattle.claims.proofs.Joining.{book-written, joined-legs, joining}
 use Rattle.claims.proofs.Nettable.{can-class, nettable}
 
 -- ---- the netted book

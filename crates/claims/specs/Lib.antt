@@ -1,4 +1,5 @@
--- What is claimed: the accepted books and their parts, joining, order and mirror, the charge of each currency, netting, offsetting, the two in one call; the books worked by hand, and facts of document 01.
+-- What is claimed: the accepted books and their parts, joining, order and mirror, the charge of each currency, netting, offsetting, the two in one call, the
+-- dearest book; the books worked by hand, and facts of document 01.
 pub mod Zones
 pub mod Orders
 pub mod Demands
@@ -18,3 +19,5 @@ pub mod NetOffset
 pub mod OrderFacts
 pub mod Shortest
 pub mod ShortestFacts
+pub mod Dearest
+pub mod DearestFacts

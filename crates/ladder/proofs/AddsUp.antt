@@ -9,7 +9,7 @@ use Rattle.ladder.specs.Position.{Bands, _⊕_, gross, net, absoluteNet,
 use Rattle.ladder.specs.Table.{Percents, AcceptedPercents}
 use Rattle.ladder.specs.Interest.{Zones, Matches, zoneNets, together, matches, matchSum, charge, allBands}
 use Rattle.ladder.specs.Inner.Steps.{zonesGross}
-use Rattle.ladder.proofs.Matching.{Takes, takes-matched, takes-then, takes-both, takes-gross, takes-net}
+use Rattle.ladder.proofs.Matching.{Takes, takes-matched, takes-then, takes-both, takes-gross, takes-net, net-sides}
 use Rattle.ladder.proofs.Totals.{takes-vertical, total-append, vertical-append}
 use Rattle.ladder.proofs.Across.{OneSided, unopposed-net, crossing-adds-up, residual-is-net}
 
@@ -95,3 +95,10 @@ adds-up p ok z f =
 -- what a machine number must hold
 pub charge-within : (p : Percents) → AcceptedPercents p → (z : Zones) (f : Bands) → chargeOf p z f ≤ 100 * (matches z f) .gross
 charge-within p ok z f = omega (arith, charge≤ p ok (matches z f), gross-adds-up z f)
+
+-- a ladder without shorts matches nothing, and costs 100% of its longs
+pub charge-unopposed : (p : Percents) → AcceptedPercents p → (z : Zones) (f : Bands) → total f (allBands z) .short ≡ 0 → chargeOf p z f ≡ 100 * total f (allBands z) .long
+unfolding matches
+charge-unopposed p ok z f none =
+    let all = adds-up p ok z f in
+    omega (arith, all .residual, all .least, all .most, net-sides (total f (allBands z)))

@@ -1,4 +1,4 @@
--- What machine numbers must hold: the charges of a list of rows, from the sum of the rows' amounts.
+-- What machine numbers must hold: the charges of a list of rows, from the sum of the rows' amounts; and what rows without shorts cost.
 -- Assumes nothing.
 use Prim.Native.Nat.{ℕ, suc, _+_, _*_, _≤_, _<_}
 use mathlib.Core.Path.{_≡_, ap, _∙_, fun-ext}
@@ -6,19 +6,18 @@ use mathlib.Core.List.{List}
 use native.Mathlib.Nat.{mul-le-mul-left, mul-le-mul-right}
 use native.Mathlib.Omega.{arith}
 use Rattle.sums.specs.Sums.{span, sumOf, sumAt}
-use Rattle.sums.proofs.Sums.{sumOf-plus, sumOf≤, sumOf-rate}
+use Rattle.sums.proofs.Sums.{sumOf-plus, sumOf-times, sumOf≤, sumOf-rate, sumAt≤}
 use Rattle.sums.specs.Every.{Every}
-use Rattle.sums.proofs.Spans.{slots-within, slots-all, sum-room}
-use Rattle.ladder.specs.Position.{Bands, gross, total}
-use Rattle.ladder.specs.Table.{Table}
-use Rattle.ladder.specs.Interest.{matches, zones}
+use Rattle.sums.proofs.Spans.{slots-within, slots-all, sum-room, sum-same}
+use Rattle.ladder.specs.Position.{Position, Bands, gross, total}
+use Rattle.ladder.specs.Table.{Percents, Table, AcceptedPercents, weightIn}
+use Rattle.ladder.specs.Interest.{matches, zones, interestFigures}
 use Rattle.ladder.specs.Rows.{Reading, weighing, positionsBy, inGroup, ladderOf, groupsOf}
 use Rattle.ladder.proofs.Matching.{same-position}
 use Rattle.ladder.proofs.Totals.{total-sides, gross-sum}
-use Rattle.ladder.proofs.AddsUp.{charge-within}
+use Rattle.ladder.proofs.AddsUp.{charge-within, charge-unopposed}
 use Rattle.ladder.proofs.Carrying.{commodity-within}
 use Rattle.ladder.proofs.Books.{weighted, interestCharge, commodityCharge, amountOf, grouped, ladderOf-weighted}
-use Rattle.ladder.specs.Inner.Steps.{TableBounds}
 
 -- each row is counted at one index at most
 pub positionsBy-within : {Row : Type 0} (index long short : Row → ℕ) (n : ℕ) (rows : List Row)
@@ -71,24 +70,40 @@ module _ {Row : Type 0} (read : Reading Row) (n : ℕ) (rows : List Row) where
         mul-le-mul-left rate (ladders-within many),
       )
 
--- ---- interest: no weight is above 2,000, and no charge above 100%
-pub weighted-gross : (table : Table) → TableBounds table → (f : Bands) (list : List ℕ) → gross (total (weighted table f) list) ≤ 2000 * gross (total f list)
-weighted-gross table ok f list =
-    omega (
-      arith,
-      gross-sum (weighted table f) list,
-      gross-sum f list,
-      sumOf-rate 2000 (λ k. gross (weighted table f k)) (λ k. gross (f k)) list
-          (λ k. omega (arith, mul-le-mul-right ((f k) .long) (ok .weights k), mul-le-mul-right ((f k) .short) (ok .weights k))),
-    )
+-- ---- interest: no weight is above the most of a table, and no charge above 100%
+module _ (table : Table) (most : ℕ) (weights : (band : ℕ) → weightIn table band ≤ most) where
+  pub weighted-gross : (f : Bands) (list : List ℕ) → gross (total (weighted table f) list) ≤ most * gross (total f list)
+  weighted-gross f list =
+      omega (
+        arith,
+        gross-sum (weighted table f) list,
+        ap (λ (n : ℕ). most * n) (gross-sum f list),
+        sumOf-rate most (λ k. gross (weighted table f k)) (λ k. gross (f k)) list
+            (λ k. omega (arith, mul-le-mul-right ((f k) .long) (weights k), mul-le-mul-right ((f k) .short) (weights k))),
+      )
 
-pub general-within : {Row : Type 0} (read : Reading Row) (table : Table) → TableBounds table → (many : ℕ) (rows : List Row)
-    → grouped (weighing table read) (interestCharge table) (span 0 many) rows ≤ 200000 * sumOf (amountOf read) rows
-unfolding matches span
-general-within read table ok many rows =
-    rw (fun-ext (λ g. ap (interestCharge table) (ladderOf-weighted read table g rows)))
-    (grouped-within read 15 rows (λ f. interestCharge table (weighted table f)) 200000
-    (λ f. omega (arith, charge-within (table .percents) (ok .percents) zones (weighted table f), weighted-gross table ok f (span 0 15))) many)
+  pub general-within : {Row : Type 0} (read : Reading Row) → AcceptedPercents (table .percents) → (many : ℕ) (rows : List Row)
+      → grouped (weighing table read) (interestCharge table) (span 0 many) rows ≤ 100 * most * sumOf (amountOf read) rows
+  unfolding matches span
+  general-within read ok many rows =
+      rw (fun-ext (λ g. ap (interestCharge table) (ladderOf-weighted read table g rows)))
+      (grouped-within read 15 rows (λ f. interestCharge table (weighted table f)) (100 * most)
+      (λ f. omega (arith, charge-within (table .percents) ok zones (weighted table f), weighted-gross f (span 0 15))) many)
+
+-- rows without shorts cost 100% of their longs
+pub general-unopposed : {Row : Type 0} (read : Reading Row) (p : Percents) → AcceptedPercents p → (many : ℕ) {rows : List Row}
+    → Every (λ row. read .band row < 15) rows → Every (λ row. read .group row < many) rows → sumOf (read .short) rows ≡ 0
+    → grouped read (λ f. interestFigures p f .charge) (span 0 many) rows ≡ 100 * sumOf (read .long) rows
+unfolding span
+general-unopposed read p ok many {rows} bands groups none =
+    let of : ℕ → ℕ = λ g. sumAt (read .group) (read .long) g rows in
+    sum-same _ (λ g. 100 * of g) many
+    (λ g h.
+    let whole = positionsBy-all (read .band) (inGroup read g (read .long)) (inGroup read g (read .short)) 15 bands in
+    charge-unopposed p ok zones (ladderOf read g rows) (ap (λ (a : Position). a .short) whole ∙ omega (arith, none, sumAt≤ (read .group) (read .short) g rows))
+    ∙ ap (λ (a : Position). 100 * a .long) whole)
+    ∙ sumOf-times 100 of (span 0 many)
+    ∙ ap (λ (n : ℕ). 100 * n) (slots-all (read .group) (read .long) many groups)
 
 -- ---- commodities
 pub commodities-within : {Row : Type 0} (read : Reading Row) (many : ℕ) (rows : List Row)

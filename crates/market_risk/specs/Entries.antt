@@ -10,6 +10,7 @@ use Rattle.charges.specs.declared.SmallBank.{SmallBank}
 use Rattle.layout.specs.declared.Written.{Written}
 use Rattle.join.specs.declared.Joined.{Joined}
 use Rattle.shortest.specs.declared.Shown.{Shown}
+use Rattle.dearest.specs.declared.Costed.{Costed}
 use Rattle.netting.specs.declared.Netted.{Netted}
 
 -- number, row, book (document 01, Who is told no, and why)
@@ -65,3 +66,7 @@ writtenEntries written = refusalEntries (written .refusal) ++ (written .length �
 -- the refusal, the length of what is written, and 1 where the book is accepted, 0 where not (P12)
 unfoldable pub shownEntries : Shown → List ℕ
 shownEntries shown = refusalEntries (shown .refusal) ++ (shown .length ∷ cond (shown .accepted) 1 0 ∷ [])
+
+-- the refusal, the length of the dearest book, its total (P14)
+unfoldable pub costedEntries : Costed → List ℕ
+costedEntries costed = refusalEntries (costed .refusal) ++ (costed .length ∷ costed .total ∷ [])

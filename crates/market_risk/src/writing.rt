@@ -5,10 +5,11 @@ ghost use mathlib.Core.List.{[], _∷_, _++_};
 ghost use lib.ListN.{length as len};
 ghost use Rattle.join.specs.Joined.{joinedOf, joinOutput};
 ghost use Rattle.shortest.specs.Shortest.{shortestOf, shortestOutput};
+ghost use Rattle.dearest.specs.Dearest.{dearestOf, dearestOutput};
 ghost use Rattle.netting.specs.Netted.{nettedOf, nettingOutput};
 ghost use Rattle.offsetting.specs.Offset.{offsetOf, offsettingOutput};
 ghost use Rattle.offsetting.specs.NetOffset.{netOffsetOf, netOffsetOutput};
-ghost use Rattle.market_risk.specs.Entries.{refusalEntries, joinedEntries, nettedEntries, writtenEntries, shownEntries};
+ghost use Rattle.market_risk.specs.Entries.{refusalEntries, joinedEntries, nettedEntries, writtenEntries, shownEntries, costedEntries};
 
 // The entries of a call with one figure besides the length.
 fn entries(refusal: Refusal, length: usize, figure: u64) -> [u64; 5]
@@ -82,4 +83,14 @@ pub extern "C" fn market_risk_shortest(book: &[u8], out: &mut [u8], result: &mut
 {
     let shown = shortest::shortest(book, out);
     *result = entries(shown.refusal, shown.length, shown.accepted as u64);
+}
+
+// Writes the dearest book of so many rows of at most an amount each into out: bytes past it keep their values, of a refused call all do.
+#[no_mangle]
+pub extern "C" fn market_risk_dearest(rows: usize, most: u64, out: &mut [u8], result: &mut [u64; 5])
+    ensures { λ r. ⌜ now (out .exit) ≡ dearestOutput rows most (now (out .entry)) ⌝ }
+    ensures { λ r. ⌜ now (result .exit) ≡ costedEntries (dearestOf rows most (len (now (out .entry)))) ⌝ }
+{
+    let costed = dearest::dearest(rows, most, out);
+    *result = entries(costed.refusal, costed.length, costed.total);
 }

@@ -4,7 +4,7 @@ use Prim.Native.Nat.{ℕ, zero, suc, _*_, _≤_, _<_}
 use mathlib.Core.Path.{_≡_, refl, sym, _∙_}
 use mathlib.Core.List.{List, [], _∷_, _++_, map, flatMap, Perm, List·Memᴰ, List·Memᴰ·head, List·Memᴰ·tail}
 use native.Mathlib.Omega.{arith}
-use lib.ListN.{length, getD}
+use lib.ListN.{length, getD, replicate}
 use Rattle.sums.specs.Sums.{sumOf}
 use Rattle.sums.specs.Every.{Every, none, also}
 use Rattle.sums.proofs.Sums.{sumOf-permuted}
@@ -42,6 +42,11 @@ module _ {A : Type 0} {P : A → Type 0} where
 pub every-all : {A : Type 0} {P : A → Type 0} → ((a : A) → P a) → (l : List A) → Every P l
 every-all h [] = none
 every-all h (a ∷ l) = also (h a) (every-all h l)
+
+-- what holds of one element, so many times
+pub every-replicate : {A : Type 0} (P : A → Type 0) (n : ℕ) (a : A) → P a → Every P (replicate n a)
+every-replicate P zero a p = none
+every-replicate P (suc n) a p = also p (every-replicate P n a p)
 
 pub every-implied : {A : Type 0} {P Q : A → Type 0} → ((a : A) → P a → Q a) → {l : List A} → Every P l → Every Q l
 every-implied h none = none

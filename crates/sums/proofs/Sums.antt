@@ -1,6 +1,6 @@
 -- Sums over a list: of two lists, of a permuted list, of changed elements; sums by index, and their bounds.
 -- Assumes nothing.
-use Prim.Native.Nat.{ℕ, _+_, _*_, _≤_, _<_}
+use Prim.Native.Nat.{ℕ, zero, suc, _+_, _*_, _≤_, _<_}
 use mathlib.Core.Path.{_≡_, refl, sym, ap}
 use mathlib.Core.Bool.{Bool, true, false, cond}
 use mathlib.Core.List.{List, [], _∷_, _++_, map, Perm, Perm·foldr-eq, List·Memᴰ, List·Memᴰ·head, List·Memᴰ·tail}
@@ -8,6 +8,7 @@ use native.Mathlib.Nat.{ℕ-set, add-left-comm, mul-zero}
 use native.Mathlib.Decide.{ℕ-discrete}
 use native.Mathlib.Omega.{arith}
 use lib.Dec.{T, eqb, eqb→eq}
+use lib.ListN.{replicate}
 use Rattle.sums.specs.Sums.{sumOf, sumAt}
 use Rattle.sums.proofs.Cases.{counted≤}
 
@@ -51,6 +52,12 @@ module _ {A : Type 0} where
   unfolding sumOf
   sumOf-zero [] = refl
   sumOf-zero (a ∷ list) = omega (arith, sumOf-zero list)
+
+  -- one element, so many times
+  pub sumOf-replicate : (f : A → ℕ) (n : ℕ) (a : A) → sumOf f (replicate n a) ≡ n * f a
+  unfolding sumOf
+  sumOf-replicate f zero a = omega arith
+  sumOf-replicate f (suc n) a = omega (arith, sumOf-replicate f n a)
 
 -- a sum that is not zero has a part that is not
 pub record Part {A : Type 0} (f : A → ℕ) (list : List A) : Type 0 where

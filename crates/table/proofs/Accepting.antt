@@ -4,7 +4,8 @@ use Prim.Native.Nat.{ℕ, zero, suc, _+_, _≤_, _<_}
 use mathlib.Core.Path.{_≡_, refl, sym, ap, _∙_}
 use mathlib.Core.Bool.{Bool, true, false, not, true≢false}
 use mathlib.Core.List.{List, [], _∷_, map}
-use native.Mathlib.Decide.{decLt}
+use native.Mathlib.Decide.{decLt, le-ind}
+use native.Mathlib.Nat.{le-refl}
 use native.Mathlib.Numerals.{add-one}
 use native.Mathlib.Omega.{arith}
 use lib.ListN.{length, getD, List·getD-eq-default}
@@ -127,14 +128,26 @@ module _ (bytes : List ℕ) where
       rises k h =
           rw (listed-at (weightAt bytes) tableBands k (omega arith), listed-at (weightAt bytes) tableBands (suc k) h, ← add-one k) (ok .never-fall k (omega arith))
 
+  -- a bound of the bands' weights; another number has no weight
+  weights-within : (most : ℕ) → ((band : ℕ) → band < tableBands → weightAt bytes band ≤ most) → (band : ℕ) → weightIn (tableOf bytes) band ≤ most
+  unfolding weightIn tableOf
+  weights-within most each band = go (decLt band tableBands)
+    where
+      go : Dec (band < tableBands) → getD (map (weightAt bytes) (span 0 tableBands)) band 0 ≤ most
+      go (yes h) = rw (listed-at (weightAt bytes) tableBands band h) (each band h)
+      go (no h) = rw (List·getD-eq-default (map (weightAt bytes) (span 0 tableBands)) 0 {n = band} (rw (listed-length (weightAt bytes) 0 tableBands) (omega arith))) (omega arith)
+
   -- so the laws of the ladder hold for it
   pub accepted-table : AcceptedTable bytes → TableBounds (tableOf bytes)
-  unfolding weightIn tableOf
-  accepted-table ok = record { weights = λ band. go band (decLt band tableBands); percents = ok .percents }
-    where
-      go : (band : ℕ) → Dec (band < tableBands) → getD (map (weightAt bytes) (span 0 tableBands)) band 0 ≤ mostWeight
-      go band (yes h) = rw (listed-at (weightAt bytes) tableBands band h) (ok .within band h)
-      go band (no h) = rw (List·getD-eq-default (map (weightAt bytes) (span 0 tableBands)) 0 {n = band} (rw (listed-length (weightAt bytes) 0 tableBands) (omega arith))) (omega arith)
+  unfolding tableOf
+  accepted-table ok = record { weights = weights-within mostWeight (ok .within); percents = ok .percents }
+
+  -- and no weight is above the last
+  last-most : AcceptedTable bytes → (band : ℕ) → weightIn (tableOf bytes) band ≤ weightAt bytes 14
+  last-most ok =
+      weights-within (weightAt bytes 14) (λ band h.
+      le-ind (λ (k : ℕ). k < tableBands → weightAt bytes band ≤ weightAt bytes k) (λ below. le-refl _)
+      (λ k from so-far below. omega (arith, so-far (omega arith), rw add-one at (ok .never-fall k (omega arith)))) 14 (omega arith) (omega arith))
 
 -- ---- what was loaded
 module _ (bytes : List ℕ) (loaded : Loaded) (is : loaded ≡ loadedOf bytes) where
@@ -157,3 +170,11 @@ module _ (bytes : List ℕ) (loaded : Loaded) (is : loaded ≡ loadedOf bytes) w
 pub standard-accepted : tableRefusal standardBytes ≡ 0
 unfolding tableRefusal tableOf weightAt percentsOf weightsHold percentsHold span u16At
 standard-accepted = refl
+
+pub standard-bounds : TableBounds (tableOf standardBytes)
+standard-bounds = accepted-table standardBytes (described standardBytes standard-accepted)
+
+-- its last weight is 1,250
+pub standard-most : (band : ℕ) → weightIn (tableOf standardBytes) band ≤ 1250
+unfolding weightAt u16At
+standard-most = last-most standardBytes (described standardBytes standard-accepted)

@@ -139,6 +139,15 @@ pub fn shortest(book: &[u8], out: &mut [u8]) {
     end();
 }
 
+pub fn dearest(rows: usize, most: u64, out: &mut [u8]) {
+    let costed = dearest::dearest(rows, most, out);
+    start(b"dearest", costed.refusal);
+    figure(costed.length as u64);
+    figure(costed.total);
+    figure(checksum(out));
+    end();
+}
+
 fn wide(byte: u8) -> u64
     ensures { λ r. ⌜ r < 256 ⌝ }
 {

@@ -89,6 +89,19 @@ fn answer_written(call: u8, in_runs: bool) -> bool {
     write_into(call, &space[..n], b"", room)
 }
 
+// The call that writes a book of no other.
+fn answer_dearest() -> bool {
+    let room = input::read_u32();
+    let rows = input::read_u32();
+    let most = input::read_u32();
+    let mut out = [165u8; 65536];
+    if out.len() < room {
+        return false;
+    }
+    lines::dearest(rows, most as u64, &mut out[..room]);
+    true
+}
+
 // Answers the next call of the stream, and whether there was one.
 fn answer_next() -> bool {
     let tag = input::read_byte();
@@ -102,6 +115,7 @@ fn answer_next() -> bool {
         8 => answer_table(),
         9 => answer_standard(call, in_runs),
         10..=13 => answer_written(call, in_runs),
+        14 => answer_dearest(),
         _ => false,
     }
 }

@@ -6,6 +6,7 @@
 
 pub mod csv;
 pub mod damage;
+pub mod dear;
 pub mod file;
 pub mod generate;
 pub mod issues;

@@ -20,6 +20,7 @@
 //! Charges are in mils, thousandths of the currency unit. The module [`raw`] has the same
 //! calls with the results of the C interface, entry by entry.
 
+mod dearest;
 mod net;
 mod net_and_offset;
 mod offset;
@@ -29,6 +30,7 @@ mod shortest;
 mod small_bank;
 mod table;
 
+pub use dearest::{dearest, dearest_book, Dearest};
 pub use net::{net, netted, Netted};
 pub use net_and_offset::{net_and_offset, net_and_offset_book};
 pub use offset::{offset, offset_book};

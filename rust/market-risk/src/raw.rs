@@ -68,6 +68,13 @@ mod c {
             out_len: usize,
             result: *mut u64,
         );
+        pub fn market_risk_dearest(
+            rows: usize,
+            most: usize,
+            out: *mut u8,
+            out_len: usize,
+            result: *mut u64,
+        );
     }
 }
 
@@ -196,4 +203,10 @@ pub fn shortest(book: &[u8], out: &mut [u8], result: &mut [u64; 5]) {
             result.as_mut_ptr(),
         )
     }
+}
+
+/// Number, row, book; the length of the dearest book at the front of `out`; its total.
+pub fn dearest(rows: usize, most: usize, out: &mut [u8], result: &mut [u64; 5]) {
+    // SAFETY: as in `check`.
+    unsafe { c::market_risk_dearest(rows, most, out.as_mut_ptr(), out.len(), result.as_mut_ptr()) }
 }

@@ -1,7 +1,8 @@
 //! Each named field against its entry of the C interface, on books whose entries differ.
 //! Catches two fields that are exchanged, and one that is read from another's entry.
 
-use market_risk::{charge, commodity_ladder, interest_ladder, join, joined, net, net_and_offset};
+use market_risk::{charge, commodity_ladder, dearest, dearest_book};
+use market_risk::{interest_ladder, join, joined, net, net_and_offset};
 use market_risk::{net_and_offset_book, netted, offset, offset_book, raw, shortest};
 use market_risk::{shortest_file, small_bank, Refusal, Shortest, Table};
 
@@ -316,4 +317,26 @@ fn shortest_files_and_their_refusal() {
     let [number, row, book, ..] = entries;
     let refusal = Refusal { number, row, book };
     assert_eq!(shortest(&whole, &mut out[..23]), Err(refusal));
+}
+
+#[test]
+fn dearest_books_and_their_refusals() {
+    let row = row(0, 3, 36_000, 0, 7);
+    let expected = book([&[row; 2], &[], &[], &[]]);
+    let (mut out, mut entries) = (vec![9; 46], [0; 5]);
+    raw::dearest(2, 7, &mut out, &mut entries);
+    assert_eq!(entries, [0, 0, 0, 40, 2_870_000]);
+    assert_eq!(out, [&expected[..], &[9; 6]].concat());
+    let done = dearest(2, 7, &mut out).unwrap();
+    hold(&[(entries.to_vec(), vec![done.length as u64, done.total])]);
+    // Rows and largest amount differ, and so do 22 and 12.
+    assert_eq!(dearest_book(2, 7), Ok((expected, 2_870_000)));
+    assert_eq!(dearest_book(7, 2).unwrap().0.len(), 8 + 7 * 16);
+    for (rows, room, refused) in [(4_001, 46, 22), (2, 39, 12)] {
+        raw::dearest(rows, 7, &mut out[..room], &mut entries);
+        assert_eq!(entries, [refused, 0, 0, 0, 0]);
+        let [number, row, book, ..] = entries;
+        let refusal = Refusal { number, row, book };
+        assert_eq!(dearest(rows, 7, &mut out[..room]), Err(refusal));
+    }
 }

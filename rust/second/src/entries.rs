@@ -1,7 +1,7 @@
 //! Results as the calls lay them out: number, row, book, and then the figures.
 
 use crate::{CommodityLadder, InterestLadder, Joined, Netted, Offset, Refusal, Report};
-use crate::{Shortest, SmallBank};
+use crate::{Dearest, Shortest, SmallBank};
 
 /// A refusal and figures, of which there must be as many as the call gives.
 fn laid_out<const N: usize>(refusal: Refusal, figures: &[u64]) -> [u64; N] {
@@ -87,6 +87,13 @@ impl Shortest {
     /// The refusal, the length, and 1 where the book is accepted.
     pub fn entries(&self) -> [u64; 5] {
         laid_out(self.refusal, &[self.length, self.accepted.into()])
+    }
+}
+
+impl Dearest {
+    /// The refusal, the length and the total.
+    pub fn entries(&self) -> [u64; 5] {
+        laid_out(self.refusal, &[self.length, self.total])
     }
 }
 

@@ -1,8 +1,8 @@
-//! The eleven calls with the results of the C interface, by whichever calculation.
+//! The twelve calls with the results of the C interface, by whichever calculation.
 
 use market_risk::raw;
 
-/// A calculation that answers all eleven calls, writing every entry of each result.
+/// A calculation that answers all twelve calls, writing every entry of each result.
 pub trait Calls {
     /// What the calculation is called in a message. No two have the same name.
     fn name(&self) -> &'static str;
@@ -27,6 +27,8 @@ pub trait Calls {
     fn net_and_offset(&self, book: &[u8], out: &mut [u8], result: &mut [u64; 5]);
     /// Number, row, book; length; 1 where the book is accepted.
     fn shortest(&self, book: &[u8], out: &mut [u8], result: &mut [u64; 5]);
+    /// Number, row, book; length; total.
+    fn dearest(&self, rows: usize, most: usize, out: &mut [u8], result: &mut [u64; 5]);
     /// Document 01's table.
     fn table(&self, out: &mut [u8; 36]);
 }
@@ -67,6 +69,9 @@ impl Calls for Proved {
     }
     fn shortest(&self, book: &[u8], out: &mut [u8], result: &mut [u64; 5]) {
         raw::shortest(book, out, result);
+    }
+    fn dearest(&self, rows: usize, most: usize, out: &mut [u8], result: &mut [u64; 5]) {
+        raw::dearest(rows, most, out, result);
     }
     fn table(&self, out: &mut [u8; 36]) {
         raw::table(out);
@@ -119,6 +124,10 @@ impl Calls for Second {
 
     fn shortest(&self, book: &[u8], out: &mut [u8], result: &mut [u64; 5]) {
         *result = second::shortest(book, out).entries();
+    }
+
+    fn dearest(&self, rows: usize, most: usize, out: &mut [u8], result: &mut [u64; 5]) {
+        *result = second::dearest(rows as u64, most as u64, out).entries();
     }
 
     fn table(&self, out: &mut [u8; 36]) {

@@ -5,6 +5,7 @@ mod bench;
 mod calls;
 mod cli;
 mod compare;
+mod dearest;
 mod files;
 mod join;
 mod ladder;
@@ -28,7 +29,7 @@ use std::io::Write;
 use std::process::ExitCode;
 
 /// The subcommands, in the order of the help text.
-const COMMANDS: [Command; 13] = [
+const COMMANDS: [Command; 14] = [
     pack::COMMAND,
     unpack::COMMAND,
     report::COMMAND,
@@ -38,6 +39,7 @@ const COMMANDS: [Command; 13] = [
     net::COMMAND,
     offset::COMMAND,
     shortest::COMMAND,
+    dearest::COMMAND,
     table::COMMAND,
     compare::COMMAND,
     bench::COMMAND,

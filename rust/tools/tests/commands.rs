@@ -18,6 +18,7 @@ fn help_for_all_and_each() {
         "net",
         "offset",
         "shortest",
+        "dearest",
         "table",
         "compare",
         "bench",

@@ -62,6 +62,8 @@ fn lost_output_is_an_error() {
         "net x.book -",
         "net x.book net.book --comparisons",
         "shortest bad.book -o shown.book",
+        "dearest --rows 3 --most 100",
+        "dearest --rows 3 --most 100 -o dear.book",
         "report x.book",
         "report x.book --currencies",
         "ladder x.book --currency 7",

@@ -53,6 +53,13 @@ extern "C" {
         out_len: usize,
         result: *mut u64,
     );
+    fn market_risk_dearest(
+        rows: usize,
+        most: usize,
+        out: *mut u8,
+        out_len: usize,
+        result: *mut u64,
+    );
 }
 
 /// A result in which every entry is marked, with room for the longest.
@@ -145,11 +152,11 @@ fn null_books_and_a_null_output_are_joined() {
     assert_eq!(join(Some(&EMPTY), Some(&EMPTY)), [12, 0, 0, 0]);
 }
 
-/// Catches netting or offsetting, or both, that write to a null output, which has no room for a book
-/// without rows.
+/// Catches netting or offsetting, or both, or the dearest book that write to a null output, which has no
+/// room for a book without rows.
 #[test]
 fn a_null_output_has_no_room() {
-    let calls: [Call; 3] = [
+    let calls: [Call; 4] = [
         (5, &|out| unsafe {
             market_risk_net(EMPTY.as_ptr(), EMPTY.len(), null_mut(), 0, out)
         }),
@@ -159,8 +166,15 @@ fn a_null_output_has_no_room() {
         (5, &|out| unsafe {
             market_risk_net_and_offset(EMPTY.as_ptr(), EMPTY.len(), null_mut(), 0, out)
         }),
+        (5, &|out| unsafe {
+            market_risk_dearest(0, 1, null_mut(), 0, out)
+        }),
     ];
     refused_with(12, &calls);
+    let refused: Call = (5, &|out| unsafe {
+        market_risk_dearest(4_001, 0, null_mut(), 0, out)
+    });
+    refused_with(22, &[refused]);
 }
 
 /// Runs the call for the shortest file with a null output, and with null for a book that is absent.

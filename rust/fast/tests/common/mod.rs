@@ -85,6 +85,17 @@ pub fn compare_shortest(book: &[u8], room: usize) -> u64 {
     result[0]
 }
 
+/// Compares the dearest book into so many bytes and gives the number of the call's refusal.
+pub fn compare_dearest(rows: usize, most: usize, room: usize) -> u64 {
+    let (mut out, mut second_out) = (vec![0x55; room], vec![0x55; room]);
+    let mut result = [OLD; 5];
+    fast::dearest(rows, most, &mut out, &mut result);
+    let written = second::dearest(rows as u64, most as u64, &mut second_out);
+    assert_eq!(result, written.entries(), "{rows} {most} {room}");
+    assert_eq!(out, second_out, "{rows} {most} {room}");
+    result[0]
+}
+
 /// Compares offsetting into so many bytes and gives its refusal's number.
 pub fn compare_offset(book: &[u8], room: usize) -> u64 {
     let (mut out, mut second_out) = (vec![0x55; room], vec![0x55; room]);

@@ -1,6 +1,6 @@
 //! The books that are timed, and the tables that they are charged under.
 
-use super::{both, issues, legs, refusals};
+use super::{both, dearest, issues, legs, refusals};
 use books::generate::{row, Shape};
 use books::tables::Table;
 use books::{Book, Random, ROW_BYTES};
@@ -24,6 +24,7 @@ pub enum Whose {
     /// Netting and offsetting in one call.
     Both,
     Shortest,
+    Dearest,
     /// All the others.
     Others,
 }
@@ -143,7 +144,7 @@ pub fn cases() -> Vec<Case> {
     let all = accepted.chain(others).chain(small_banks());
     let written = issues::cases().into_iter().chain(legs::cases());
     let written = written.chain(both::cases()).chain(refusals::cases());
-    all.chain(written).collect()
+    all.chain(written).chain(dearest::cases()).collect()
 }
 
 /// The cases of small banks.

@@ -59,3 +59,21 @@ where
     };
     case.books.iter().map(answer).collect()
 }
+
+/// The answers of a call on so many rows and each of some largest amounts, with an output as long as the
+/// book that holds what it held before.
+pub fn expected_of_numbers<F>(rows: usize, amounts: &[usize], call: F) -> Rc<[Answer]>
+where
+    F: Fn(usize, usize, &mut [u8], &mut [u64; 5]),
+{
+    let answer = |most: &usize| {
+        let mut entries = [0; 5];
+        let mut output = vec![OLD_BYTE; 8 + 16 * rows];
+        call(rows, *most, &mut output, &mut entries);
+        Answer {
+            entries: entries.to_vec(),
+            output,
+        }
+    };
+    amounts.iter().map(answer).collect()
+}

@@ -1,10 +1,13 @@
 //! Who is timed for each call: the proved library first, then others and a floor.
 
 use super::cases::{Case, Whose};
-use super::expected::{expected, expected_of_outputs, expected_of_pairs};
+use super::dearest::amounts;
+use super::expected::{expected, expected_of_numbers, expected_of_outputs, expected_of_pairs};
 use super::floors::{copy, copy_book, copy_book_bytes, copy_bytes, sum_bytes, sum_words};
 use super::timed::Timed;
-use super::work::{of_book, of_group, of_output, of_pair, of_table, of_table_and_group};
+use super::work::{
+    of_book, of_group, of_numbers, of_output, of_pair, of_table, of_table_and_group,
+};
 use super::work::{Answer, Work};
 use crate::calls::{Calls, Second};
 use crate::cli::Failure;
@@ -34,7 +37,7 @@ impl Call {
 }
 
 /// The calls, in the order of the tables.
-pub const CALLS: [Call; 10] = [
+pub const CALLS: [Call; 11] = [
     Call {
         name: "check",
         takes_table: false,
@@ -94,6 +97,12 @@ pub const CALLS: [Call; 10] = [
         takes_table: false,
         whose: Whose::Shortest,
         sides: shortest,
+    },
+    Call {
+        name: "dearest",
+        takes_table: false,
+        whose: Whose::Dearest,
+        sides: dearest,
     },
 ];
 
@@ -213,6 +222,24 @@ fn shortest(case: &Case) -> Sides<'_> {
         ("proved", of_output(books, raw::shortest), expected.clone()),
         ("Rust", of_output(books, fast::shortest), expected),
         words(case),
+    ])
+}
+
+/// The books of the case are those that are written; the floor copies them.
+fn dearest(case: &Case) -> Sides<'_> {
+    let (rows, amounts, books) = (case.rows, amounts(case), &case.books);
+    let expected = expected_of_numbers(rows, &amounts, |rows, most, out, result| {
+        Second.dearest(rows, most, out, result);
+    });
+    let copied = expected_of_outputs(case, copy_book_bytes::<5>);
+    compared(vec![
+        (
+            "proved",
+            of_numbers(rows, &amounts, raw::dearest),
+            expected.clone(),
+        ),
+        ("Rust", of_numbers(rows, &amounts, fast::dearest), expected),
+        ("copy", of_output(books, copy_book::<5>), copied),
     ])
 }
 

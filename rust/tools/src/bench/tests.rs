@@ -137,8 +137,8 @@ fn first<'a>(call: &Call, cases: &'a [Case]) -> &'a Case {
     taken.next().expect("each call has a case")
 }
 
-/// The calls that write a book, from two books and from one.
-const WRITES: [&str; 4] = ["join", "net", "offset", "net and offset"];
+/// The calls that write a book, from two books, from one and from none.
+const WRITES: [&str; 5] = ["join", "net", "offset", "net and offset", "dearest"];
 
 /// Other calls that stand in a file of their own in plain Rust.
 const OWN_FILES: [&str; 2] = ["small_bank", "shortest"];
@@ -157,6 +157,7 @@ fn each_name_times_its_own_call() {
         "offset",
         "net_and_offset",
         "shortest",
+        "dearest",
     ];
     let cases = cases();
     for (call, function) in CALLS.iter().zip(functions) {
@@ -170,7 +171,7 @@ fn each_name_times_its_own_call() {
                 "Rust" => format!("fast::{function}"),
                 "C" => format!("fast::expert::{function}"),
                 "words" => "market_risk::bench::floors::sum_words".to_string(),
-                _ if function.starts_with("net") => {
+                _ if function.starts_with("net") || function == "dearest" => {
                     "market_risk::bench::floors::copy_book<5>".to_string()
                 }
                 _ if function == "offset" => "market_risk::bench::floors::copy_book<4>".to_string(),
@@ -228,7 +229,7 @@ fn the_small_bank_has_lines_of_its_own() {
 }
 
 /// The lines that calls on one book have which write another, or a part of it.
-const OWN_LINES: [(&str, &[(&str, usize)]); 4] = [
+const OWN_LINES: [(&str, &[(&str, usize)]); 5] = [
     (
         "net",
         &[
@@ -269,6 +270,10 @@ const OWN_LINES: [(&str, &[(&str, usize)]); 4] = [
             ("last row bad", 4_000),
             ("accepted", 4_000),
         ],
+    ),
+    (
+        "dearest",
+        &[("no rows", 0), ("rows alike", 40), ("rows alike", 4_000)],
     ),
 ];
 

@@ -207,3 +207,46 @@ where
         entries: [OLD_ENTRY; N],
     })
 }
+
+/// A call on numbers alone that writes a book.
+struct OfNumbers<F> {
+    /// Rows and largest amounts.
+    numbers: Vec<[usize; 2]>,
+    call: F,
+    output: Vec<u8>,
+    entries: [u64; 5],
+}
+
+impl<F: Fn(usize, usize, &mut [u8], &mut [u64; 5])> Work for OfNumbers<F> {
+    fn run(&mut self, at: usize) {
+        let [rows, most] = black_box(self.numbers[at & (self.numbers.len() - 1)]);
+        (self.call)(rows, most, &mut self.output, &mut self.entries);
+        black_box((&mut self.entries, &mut self.output));
+    }
+    fn forget(&mut self) {
+        self.entries = [OLD_ENTRY; 5];
+        self.output.fill(OLD_BYTE);
+    }
+    fn answer(&self) -> Answer {
+        Answer {
+            entries: self.entries.to_vec(),
+            output: self.output.clone(),
+        }
+    }
+    fn path(&self) -> &'static str {
+        type_name::<F>()
+    }
+}
+
+/// A call on so many rows and each of some largest amounts, and an output that has room for the book.
+pub fn of_numbers<'a, F>(rows: usize, amounts: &[usize], call: F) -> Box<dyn Work + 'a>
+where
+    F: Fn(usize, usize, &mut [u8], &mut [u64; 5]) + 'a,
+{
+    Box::new(OfNumbers {
+        numbers: amounts.iter().map(|most| [rows, *most]).collect(),
+        call,
+        output: vec![OLD_BYTE; 8 + 16 * rows],
+        entries: [OLD_ENTRY; 5],
+    })
+}

@@ -1,5 +1,7 @@
-//! One random case: two books, a table, a group and the lengths of five outputs.
+//! One random case: two books, a table, a group, the lengths of five outputs, and what is asked of the
+//! dearest book.
 
+use super::asked::Asked;
 use super::e4::{add_e4, add_e4_issue};
 use books::damage::{damage, damage_note};
 use books::generate::{book, interest_book, interest_rows, ladder_book, Shape};
@@ -30,6 +32,8 @@ pub struct Case {
     pub both_room: usize,
     /// The length of the output of the shortest file that shows its refusal.
     pub shortest_room: usize,
+    /// What is asked of the dearest book.
+    pub dearest: Asked,
     /// The seed of the order in which the sample of demand 3 puts rows.
     pub order: u64,
 }
@@ -63,7 +67,7 @@ fn group(random: &mut Random, a: &[u8]) -> usize {
 }
 
 /// A length of an output, mostly next to what is to be written.
-fn room(random: &mut Random, written: usize) -> usize {
+pub fn room(random: &mut Random, written: usize) -> usize {
     match random.below(8) {
         0 => random.pick(&[0, 7, 8, 9, 64_008, 65_536]),
         1 => random.below(written as u64 + 1) as usize,
@@ -299,6 +303,7 @@ impl Case {
             offset_room: room_of(&mut random, &a, second::offset_book(&a)),
             both_room: room_of_both(&mut random, &a),
             shortest_room: room_to_show(&mut random, &a),
+            dearest: Asked::new(&mut random),
             table,
             a,
             b,

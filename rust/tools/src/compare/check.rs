@@ -1,5 +1,6 @@
-//! All eleven calls on one case, entry by entry and byte by byte.
+//! All twelve calls on one case, entry by entry and byte by byte.
 
+use super::asked::Asked;
 use super::case::Case;
 use crate::calls::Calls;
 
@@ -116,6 +117,14 @@ fn shortest(calculations: [&dyn Calls; 2], case: &Case) -> Option<String> {
     })
 }
 
+/// Writes the dearest book with both calculations.
+fn dearest(calculations: [&dyn Calls; 2], case: &Case) -> Option<String> {
+    let Asked { rows, most, room } = case.dearest;
+    writing("dearest", calculations, room, |calls, out, result| {
+        calls.dearest(rows, most, out, result);
+    })
+}
+
 /// Compares document 01's table by both calculations.
 fn table(library: &dyn Calls, other: &dyn Calls) -> Option<String> {
     let (mut ours, mut theirs) = ([0x5a; 36], [0xa5; 36]);
@@ -165,5 +174,6 @@ pub fn difference(library: &dyn Calls, other: &dyn Calls, case: &Case) -> Option
         .or_else(|| offset(both, case))
         .or_else(|| net_and_offset(both, case))
         .or_else(|| shortest(both, case))
+        .or_else(|| dearest(both, case))
         .or_else(|| table(library, other))
 }

@@ -2,6 +2,7 @@
 
 use super::both::Both;
 use super::comparisons::Comparisons;
+use super::dearest::Dearest;
 use super::floating::Floating;
 use super::net_joins::NetJoins;
 use super::nets::Nets;
@@ -114,6 +115,14 @@ const LEAST: Tally = Tally {
         lengths: [1_920, 410, 475, 390, 550, 386],
         rooms: [121, 223, 64, 280, 370, 130],
     },
+    dearest: Dearest {
+        rows: [225, 125, 4_800, 160, 110, 285],
+        amounts: [95, 90, 4_800, 82, 84, 370],
+        refused: [365, 510, 31, 310, 1_850],
+        rooms: [2_170, 1_630, 720],
+        first: [4_290, 183],
+        dear: [3_260, 810, 1_420],
+    },
 };
 
 /// The cases that `LEAST` is about.
@@ -214,6 +223,7 @@ mod tests {
         every_offset_has_a_minimum();
         both_have_a_minimum();
         every_shown_refusal_has_a_minimum();
+        every_dearest_book_has_a_minimum();
         for number in (1..=9).chain([15]) {
             let lacking = one_short(|tally| &mut tally.refused[number]);
             assert!(lacking[0].starts_with(&format!("books refused {number}: ")));
@@ -428,13 +438,52 @@ mod tests {
         }
     }
 
+    /// The same of dearest books, and of books that are held to them.
+    fn every_dearest_book_has_a_minimum() {
+        let alone = |of: &dyn Fn(&mut Dearest) -> &mut u64, name: &str| {
+            let lacking = one_short(|tally| of(&mut tally.dearest));
+            assert_eq!(lacking.len(), 1, "{name}");
+            assert!(lacking[0].starts_with(name), "{lacking:?}");
+        };
+        for at in 0..LEAST.dearest.rows.len() {
+            let name = "dearest books asked for with ";
+            alone(&|dearest| &mut dearest.rows[at], name);
+        }
+        for at in 0..LEAST.dearest.amounts.len() {
+            let name = "dearest books asked for of at most ";
+            alone(&|dearest| &mut dearest.amounts[at], name);
+        }
+        for (at, number) in ["22 ", "22 ", "22 ", "22 ", "12: "].iter().enumerate() {
+            let name = format!("dearest books refused {number}");
+            alone(&|dearest| &mut dearest.refused[at], &name);
+        }
+        for at in 0..LEAST.dearest.rooms.len() {
+            alone(
+                &|dearest| &mut dearest.rooms[at],
+                "outputs of the dearest book ",
+            );
+        }
+        for at in 0..LEAST.dearest.first.len() {
+            alone(
+                &|dearest| &mut dearest.first[at],
+                "books held to the most, ",
+            );
+        }
+        for at in 0..LEAST.dearest.dear.len() {
+            alone(
+                &|dearest| &mut dearest.dear[at],
+                "dear books held to the most, ",
+            );
+        }
+    }
+
     /// Catches minimums that do not follow the count of the run.
     #[test]
     fn minimums_follow_the_count() {
         let nothing = Tally::default();
         assert_eq!(
             nothing.lacking(20_000).len(),
-            12 + 9 + 18 + 10 + 12 + 21 + 47 + 34 + 26 + 51
+            12 + 9 + 18 + 10 + 12 + 21 + 47 + 34 + 26 + 51 + 25
         );
         assert!(LEAST.lacking(20_100).len() > 10);
         let half = nothing.lacking(10_000);
@@ -442,7 +491,7 @@ mod tests {
         // Few cases may miss the rarest, and very few may miss anything.
         assert_eq!(
             nothing.lacking(9_999).len(),
-            12 + 9 + 18 + 10 + 11 + 20 + 42 + 32 + 24 + 33
+            12 + 9 + 18 + 10 + 11 + 20 + 42 + 32 + 24 + 33 + 25
         );
         assert_eq!(nothing.lacking(41), [""; 0]);
     }

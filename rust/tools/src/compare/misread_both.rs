@@ -59,6 +59,9 @@ impl Calls for Misread {
     fn shortest(&self, book: &[u8], out: &mut [u8], result: &mut [u64; 5]) {
         Second.shortest(book, out, result);
     }
+    fn dearest(&self, rows: usize, most: usize, out: &mut [u8], result: &mut [u64; 5]) {
+        Second.dearest(rows, most, out, result);
+    }
     fn table(&self, out: &mut [u8; 36]) {
         Second.table(out);
     }

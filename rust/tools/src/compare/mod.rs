@@ -1,5 +1,6 @@
 //! `compare`: the proved library against the second calculation on random books.
 
+mod asked;
 mod both;
 mod both_laws;
 #[cfg(test)]
@@ -10,6 +11,11 @@ mod comparisons;
 #[cfg(test)]
 mod count_readings;
 mod cuts;
+mod dearest;
+mod dearest_laws;
+#[cfg(test)]
+mod dearest_readings;
+mod dearest_sorts;
 mod e4;
 #[cfg(test)]
 mod faulty;
@@ -24,6 +30,8 @@ mod mended;
 mod misread;
 #[cfg(test)]
 mod misread_both;
+#[cfg(test)]
+mod misread_dearest;
 #[cfg(test)]
 mod misread_net;
 #[cfg(test)]
@@ -68,6 +76,10 @@ mod wrong_both;
 #[cfg(test)]
 mod wrong_counts;
 #[cfg(test)]
+mod wrong_dearest;
+#[cfg(test)]
+mod wrong_dearest_claims;
+#[cfg(test)]
 mod wrong_ladders;
 #[cfg(test)]
 mod wrong_net;
@@ -90,7 +102,7 @@ pub const COMMAND: Command = Command {
     help: "market-risk compare [--seed S] [--count N] [--first K]
 
 Makes N pairs of random and damaged books from seed S and holds the proved library to
-the second calculation: all eleven calls, every entry of every result and every byte of
+the second calculation: all twelve calls, every entry of every result and every byte of
 every output. Each pair has one table: document 01's, another that is accepted, or one that
 is refused. Demand 3 is sampled too: a reordered, mirrored, or reordered and mirrored book
 has the same report; a joined book takes as many rows as its two parts and, with at most
@@ -109,7 +121,10 @@ stays as it is when it is offset again. Netting and offsetting in one call leave
 leave one after the other, and given that book once more the call changes nothing. The shortest file
 that shows a refusal is refused with the same number in its first row, under document 01's table and
 under that of the pair; it is no longer than the book, files that are shorter are refused with other
-numbers, and it is its own shortest file. In every fourth pair rows share issue numbers, every eighth
+numbers, and it is its own shortest file. The dearest book of a number of rows and a largest amount,
+which each pair asks for, is accepted, has so many rows of at most so much, and costs the total that is
+told of it; no accepted book of as many rows of at most as much costs more, neither the first of the
+pair nor one that is made to be dear. In every fourth pair rows share issue numbers, every eighth
 is of swap legs, every sixteenth of legs that share issue numbers, and every sixteenth of files that
 are refused.
 
@@ -133,8 +148,9 @@ number, and books netted and offset, with more pairs and with fewer than before 
 for less and for more than in the other order, into outputs of each length, some too short
 for the netted book, refused with each number, and with 13 and 14 that the other order hides, and
 refusals that are shown, each number of a row in each class, at each place and before other bad rows,
-contents of each sort, and accepted books, into outputs of each length, must come up in proportion
-to N.
+contents of each sort, and accepted books, into outputs of each length, and dearest books, of rows and
+amounts at their limits and past them, refused for each, into outputs of each length, and books held to
+the most that they can cost, some as dear, must come up in proportion to N.
 
   --seed S    the seed, 1 if not given
   --count N   how many pairs, 20000 if not given

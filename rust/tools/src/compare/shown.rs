@@ -1,5 +1,6 @@
 //! A case as it is printed: its numbers, its table and its books.
 
+use super::asked::Asked;
 use super::case::Case;
 use books::tables::{text, Table};
 use books::{csv, Book};
@@ -27,11 +28,21 @@ fn show_table(bytes: &[u8]) -> String {
     format!("table, {} bytes: {}\n{text}", bytes.len(), hex(bytes))
 }
 
+impl fmt::Display for Asked {
+    fn fmt(&self, out: &mut fmt::Formatter) -> fmt::Result {
+        let Asked { rows, most, room } = self;
+        writeln!(
+            out,
+            "the dearest book of {rows} rows of at most {most}, into {room} bytes"
+        )
+    }
+}
+
 impl fmt::Display for Case {
     fn fmt(&self, out: &mut fmt::Formatter) -> fmt::Result {
         let (group, room) = (self.group, self.room);
         let (net, offset, both) = (self.net_room, self.offset_room, self.both_room);
-        let shortest = self.shortest_room;
+        let (shortest, asked) = (self.shortest_room, &self.dearest);
         let (a, b, table) = (
             show("A", &self.a),
             show("B", &self.b),
@@ -40,7 +51,7 @@ impl fmt::Display for Case {
         write!(
             out,
             "group {group}, outputs of {room} bytes to join, {net} to net, {offset} to offset, {both} \
-             for both and {shortest} to show the refusal\n{table}{a}{b}"
+             for both and {shortest} to show the refusal\n{table}{a}{b}{asked}"
         )
     }
 }
@@ -57,6 +68,20 @@ mod tests {
         let text = case.to_string();
         assert!(text.contains("book A, 8 bytes: 0000000000000000\nclass,group,"));
         assert!(text.contains("book B, 2 bytes: 0102\n(the length"));
+    }
+
+    /// Catches numbers of the dearest book that are not printed, or in each other's place.
+    #[test]
+    fn what_is_asked_of_the_dearest_book_is_shown_last() {
+        let mut case = Case::new(1, 1);
+        case.dearest = Asked {
+            rows: 3,
+            most: 100,
+            room: 56,
+        };
+        let text = case.to_string();
+        let last = "\nthe dearest book of 3 rows of at most 100, into 56 bytes\n";
+        assert!(text.ends_with(last), "{text}");
     }
 
     /// Catches a table that is not printed, or printed with its fields exchanged.

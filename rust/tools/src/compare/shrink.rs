@@ -80,7 +80,12 @@ fn smaller(case: &Case) -> impl Iterator<Item = Case> + '_ {
         table,
         ..case.clone()
     });
-    plainer(case).chain(of_table).chain(of_b).chain(of_a)
+    let of_asked = case.dearest.plainer().map(|dearest| Case {
+        dearest,
+        ..case.clone()
+    });
+    let plainer = plainer(case).chain(of_asked);
+    plainer.chain(of_table).chain(of_b).chain(of_a)
 }
 
 /// Cuts a failing case for as long as a cut still fails.
@@ -108,6 +113,7 @@ fn shrink_within(tries: usize, case: &Case, fails: &mut dyn FnMut(&Case) -> bool
 
 #[cfg(test)]
 mod tests {
+    use super::super::asked::Asked;
     use super::*;
     use books::{Book, Row};
 
@@ -128,6 +134,11 @@ mod tests {
             offset_room: 500,
             both_room: 500,
             shortest_room: 500,
+            dearest: Asked {
+                rows: 30,
+                most: 77,
+                room: 500,
+            },
             order: 1,
         }
     }
@@ -148,7 +159,24 @@ mod tests {
         let outputs = [smallest.net_room, smallest.offset_room];
         let more = [smallest.both_room, smallest.shortest_room];
         assert_eq!((left, outputs, more), ((0, 0, 0), [0; 2], [0; 2]));
+        let Asked { rows, most, room } = smallest.dearest;
+        assert_eq!([rows, most, room], [0; 3]);
         assert_eq!(smallest.table, second::table());
+    }
+
+    /// Catches numbers of the dearest book that are not cut, or an output that is cut without them.
+    #[test]
+    fn what_is_asked_of_the_dearest_book_is_cut_too() {
+        let short = |case: &Case| {
+            let Asked { rows, most, room } = case.dearest;
+            most > 9 && rows > 2 && room + 1 == 8 + 16 * rows
+        };
+        let mut whole = case(3, 3);
+        whole.dearest.room = 7 + 16 * 30;
+        let smallest = shrink(&whole, &mut |case| short(case));
+        let Asked { rows, most, room } = smallest.dearest;
+        assert_eq!([rows, most, room], [3, 10, 55]);
+        assert!(smallest.a.is_empty());
     }
 
     /// Catches a group that is kept because neither the call's nor the rows' can be changed

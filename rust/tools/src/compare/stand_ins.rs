@@ -1,5 +1,6 @@
 //! Runs with calculations that are none, or not all of one: each must fail.
 
+use super::asked::Asked;
 use super::case::Case;
 use super::premises::{at_most_two, zones};
 use super::run::{Run, DEFAULT_COUNT};
@@ -8,7 +9,7 @@ use crate::cli::{Args, Failure};
 use books::legs::LEG;
 use books::Book;
 
-/// The eleven calls.
+/// The twelve calls.
 #[derive(Clone, Copy, Debug, PartialEq)]
 enum Call {
     Check,
@@ -21,10 +22,11 @@ enum Call {
     Offset,
     NetAndOffset,
     Shortest,
+    Dearest,
     Table,
 }
 
-const CALLS: [Call; 11] = [
+const CALLS: [Call; 12] = [
     Call::Check,
     Call::Charge,
     Call::InterestLadder,
@@ -35,6 +37,7 @@ const CALLS: [Call; 11] = [
     Call::Offset,
     Call::NetAndOffset,
     Call::Shortest,
+    Call::Dearest,
     Call::Table,
 ];
 
@@ -116,6 +119,11 @@ impl Calls for StandIn<'_> {
             Second.shortest(book, out, result);
         });
     }
+    fn dearest(&self, rows: usize, most: usize, out: &mut [u8], result: &mut [u64; 5]) {
+        self.write(Call::Dearest, out, result, |out, result| {
+            Second.dearest(rows, most, out, result);
+        });
+    }
     fn table(&self, out: &mut [u8; 36]) {
         match (self.without.contains(&Call::Table), self.zeros) {
             (false, _) => Second.table(out),
@@ -194,6 +202,11 @@ fn a_run_that_has_seen_too_little_fails() {
         offset_room: 8,
         both_room: 8,
         shortest_room: 8,
+        dearest: Asked {
+            rows: 0,
+            most: 1,
+            room: 8,
+        },
         order: 0,
     };
     let message = failure(&empty);
@@ -216,6 +229,8 @@ fn a_run_that_has_seen_too_little_fails() {
     assert!(message.contains("\nbooks netted and offset with an issue and a pair: 0 where"));
     assert!(message.contains("\nshown 6 of commodity: 0 where at least 10 are wanted\n"));
     assert!(message.contains("\noutputs to show of 7: 0 where"));
+    assert!(message.contains("\ndearest books refused 22 without room: 0 where"));
+    assert!(message.contains("\ndear books held to the most, which cost as dear: 0 where"));
     assert!(message.contains("\ntables refused 18: 0 where"));
     assert!(message.contains("\ntables refused for 1-3 above 100 alone: 0 where"));
     assert!(!message.contains("books accepted: "), "{message}");
@@ -308,6 +323,18 @@ fn without_legs(seed: u64, number: u64) -> Case {
         a: bonds(case.a.clone()).unwrap_or(case.a),
         b: bonds(case.b.clone()).unwrap_or(case.b),
         ..case
+    }
+}
+
+/// A case of a seed that asks for a dearest book without rows, into an output that is just long enough.
+fn without_dearest(seed: u64, number: u64) -> Case {
+    Case {
+        dearest: Asked {
+            rows: 0,
+            most: 1,
+            room: 8,
+        },
+        ..Case::new(seed, number)
     }
 }
 
@@ -429,4 +456,16 @@ fn a_run_without_bad_rows_fails() {
     lacking.retain(|line| line.contains("shown ") || line.contains(" for a row: "));
     assert!(lacking.iter().all(|line| line.contains(": 0 where")));
     assert_eq!(lacking.len(), 1 + 4 + 2 + 3, "{lacking:?}");
+}
+
+/// Catches a run that asks for one book alone: no limit was tried, nothing was refused, and no book was
+/// made to be dear.
+#[test]
+fn a_run_without_dearest_books_fails() {
+    let lacking = lacking(without_dearest);
+    assert!(lacking.iter().all(|line| line.contains(": 0 where")));
+    let about = |line: &&String| line.contains("dearest book") || line.starts_with("dear books ");
+    assert_eq!(lacking.iter().filter(about).count(), lacking.len());
+    // 22 for both reasons is too rare to be asked for in so few cases.
+    assert_eq!(lacking.len(), 5 + 5 + 4 + 2 + 3, "{lacking:?}");
 }

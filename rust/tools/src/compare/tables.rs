@@ -135,6 +135,7 @@ impl fmt::Display for Tables {
 
 #[cfg(test)]
 mod tests {
+    use super::super::asked::Asked;
     use super::*;
     use books::tables::random::broken;
     use books::{Random, Row};
@@ -159,6 +160,11 @@ mod tests {
             net_room: 0,
             both_room: 0,
             shortest_room: 0,
+            dearest: Asked {
+                rows: 0,
+                most: 1,
+                room: 0,
+            },
             offset_room: 0,
             order: 0,
         });

@@ -3,6 +3,7 @@
 use super::both::Both;
 use super::case::Case;
 use super::comparisons::Comparisons;
+use super::dearest::Dearest;
 use super::floating::Floating;
 use super::net_joins::NetJoins;
 use super::nets::Nets;
@@ -43,6 +44,7 @@ pub struct Tally {
     pub offsets: Offsets,
     pub both: Both,
     pub shown: Shown,
+    pub dearest: Dearest,
 }
 
 impl Tally {
@@ -62,6 +64,7 @@ impl Tally {
         self.offsets.count(case);
         self.both.count(case);
         self.shown.count(case);
+        self.dearest.count(case);
         self.ladder_refused += u64::from(case.group > 31);
         self.tables.count(case);
         let charged = second::read_table(&case.table).is_ok();
@@ -121,6 +124,7 @@ impl Tally {
         counts.extend(self.offsets.named());
         counts.extend(self.both.named());
         counts.extend(self.shown.named());
+        counts.extend(self.dearest.named());
         counts.extend(numbered("books refused", &self.refused));
         counts.extend(numbered("joins refused", &self.joins));
         counts
@@ -159,6 +163,7 @@ impl fmt::Display for Tally {
         writeln!(out, "{}", self.offsets)?;
         writeln!(out, "{}", self.both)?;
         writeln!(out, "{}", self.shown)?;
+        writeln!(out, "{}", self.dearest)?;
         writeln!(
             out,
             "joins refused {not_joined}, for the second book {}",
@@ -169,6 +174,7 @@ impl fmt::Display for Tally {
 
 #[cfg(test)]
 mod tests {
+    use super::super::asked::Asked;
     use super::*;
     use books::{Book, Row};
 
@@ -196,6 +202,11 @@ mod tests {
             offset_room: 1_000,
             both_room: 1_000,
             shortest_room: 1_000,
+            dearest: Asked {
+                rows: 2,
+                most: 7,
+                room: 1_000,
+            },
             order: 0,
         });
         tally

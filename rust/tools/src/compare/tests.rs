@@ -1,5 +1,6 @@
 //! The comparison finds faults, and finds small books for them.
 
+use super::asked::Asked;
 use super::case::Case;
 use super::faulty::{Fault, Faulty};
 use super::run::Run;
@@ -231,6 +232,11 @@ fn case(a: &[Row], b: &[Row]) -> Case {
         offset_room: 1_000,
         both_room: 1_000,
         shortest_room: 1_000,
+        dearest: Asked {
+            rows: 2,
+            most: 7,
+            room: 1_000,
+        },
         order: 0,
     }
 }

@@ -72,6 +72,12 @@ fn answer(by: &dyn Calls, case: &Case) -> (&'static str, Vec<u64>) {
             "shortest",
             writing(*room, |out, result| by.shortest(book, out, result)),
         ),
+        Call::Dearest { room, rows, most } => (
+            "dearest",
+            writing(*room, |out, result| {
+                by.dearest(*rows as usize, *most as usize, out, result);
+            }),
+        ),
         Call::SmallBank => {
             by.small_bank(book, &mut small_bank);
             ("small-bank", small_bank.to_vec())
@@ -102,7 +108,7 @@ fn lines_by(by: &dyn Calls, cases: &[Case]) -> String {
 #[cfg(test)]
 mod tests {
     use super::super::build::{call, charge_by, join, ladder_by, net, net_and_offset, offset};
-    use super::super::build::{row, shortest, small_bank};
+    use super::super::build::{dearest, row, shortest, small_bank};
     use super::*;
     use crate::calls::Proved;
 
@@ -236,6 +242,30 @@ mod tests {
              shortest 0 0 0 0 0 0\n\
              shortest 0 0 0 0 1 {kept}\n\
              shortest 0 0 0 8 0 {one}\n"
+        );
+        assert_eq!(lines(&cases), expected);
+    }
+
+    /// The dearest book of one row of at most 7, and one byte past it; without room; of no rows; and
+    /// refused for either number.
+    #[test]
+    fn lines_of_the_dearest_book_have_every_figure() {
+        let cases = [
+            dearest(1, 7, 25),
+            dearest(1, 7, 23),
+            dearest(0, 7, 8),
+            dearest(4_001, 7, 8),
+            dearest(1, 0, 0),
+        ];
+        let paper = [0, 3, 0xa0, 0x8c, 0, 0, 0, 0, 7, 0, 0, 0, 0, 0, 0, 0];
+        let one = [&[1, 0, 0, 0, 0, 0, 0, 0][..], &paper, &[0xa5]].concat();
+        let [one, short, none, kept] = [&one[..], &[0xa5; 23], &[0; 8], &[0xa5; 8]].map(checksum);
+        let expected = format!(
+            "dearest 0 0 0 24 1435000 {one}\n\
+             dearest 12 0 0 0 0 {short}\n\
+             dearest 0 0 0 8 0 {none}\n\
+             dearest 22 0 0 0 0 {kept}\n\
+             dearest 22 0 0 0 0 0\n"
         );
         assert_eq!(lines(&cases), expected);
     }

@@ -19,6 +19,7 @@ pub enum Call {
     Offset { room: u32 },
     NetAndOffset { room: u32 },
     Shortest { room: u32 },
+    Dearest { room: u32, rows: u32, most: u32 },
 }
 
 /// One stored call.
@@ -80,6 +81,12 @@ pub fn net_and_offset(book: &[u8], room: usize) -> Case {
 pub fn shortest(book: &[u8], room: usize) -> Case {
     let room = length(room);
     call(Call::Shortest { room }, book)
+}
+
+/// The dearest book of so many rows of at most so much, with so much room. It is given no book.
+pub fn dearest(rows: u32, most: u32, room: usize) -> Case {
+    let room = length(room);
+    call(Call::Dearest { room, rows, most }, &[])
 }
 
 /// A call that writes a book of so many bytes, into an output of every length that matters.

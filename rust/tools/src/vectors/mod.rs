@@ -4,6 +4,7 @@ mod answers;
 mod bands;
 mod build;
 mod currencies;
+mod dearest;
 mod faults;
 mod floating;
 mod full;
@@ -78,6 +79,7 @@ fn cases(seed: u64) -> Vec<Case> {
         net_and_offset_faults::cases(),
         shortest::cases(seed),
         shortest_rows::cases(),
+        dearest::cases(seed),
     ]
     .concat()
 }
@@ -182,6 +184,7 @@ mod tests {
         // A book's own refusal is none of the call that shows it.
         for number in 0..=22 {
             assert_eq!(seen("shortest", number), [0, 12].contains(&number));
+            assert_eq!(seen("dearest", number), [0, 12, 22].contains(&number));
         }
     }
 

@@ -69,6 +69,10 @@ impl Reader<'_> {
                 _ => call(Call::Shortest { room }, &book),
             });
         }
+        if tag == 14 {
+            let [room, rows, most] = [0; 3].map(|_| self.number(4) as u32);
+            return Some(call(Call::Dearest { room, rows, most }, &[]));
+        }
         let table = match tag {
             6 | 7 => self.table(),
             _ => vec![],
@@ -126,8 +130,8 @@ fn thousands(number: usize) -> String {
 }
 
 /// What the page says of the random books and tables.
-fn randoms() -> [String; 8] {
-    use super::{loaded, net_and_offset, nets, offsets, random, shortest, small_banks};
+fn randoms() -> [String; 9] {
+    use super::{dearest, loaded, net_and_offset, nets, offsets, random, shortest, small_banks};
     let (books, tables) = (loaded::BOOKS, loaded::TABLES);
     [
         format!("- {} random books of the seed, each damaged", random::BOOKS),
@@ -149,6 +153,10 @@ fn randoms() -> [String; 8] {
         format!(
             "- {} random books of the seed and the shortest files that show their refusals",
             shortest::BOOKS
+        ),
+        format!(
+            "- {} random numbers of rows, largest amounts",
+            dearest::CALLS
         ),
     ]
 }

@@ -65,6 +65,12 @@ fn of_writing(tag: u8, book: &[u8], room: u32) -> Vec<u8> {
     [&[tag + form][..], &numbers.concat(), &bytes].concat()
 }
 
+/// The dearest book: tag, length of the output, rows, largest amount.
+fn of_dearest(room: u32, rows: u32, most: u32) -> Vec<u8> {
+    let numbers = [room, rows, most].map(u32::to_le_bytes);
+    [&[14][..], &numbers.concat()].concat()
+}
+
 /// One call.
 fn record(case: &Case) -> Vec<u8> {
     let book = &case.book;
@@ -82,6 +88,7 @@ fn record(case: &Case) -> Vec<u8> {
         Call::Offset { room } => of_writing(11, book, *room),
         Call::NetAndOffset { room } => of_writing(12, book, *room),
         Call::Shortest { room } => of_writing(13, book, *room),
+        Call::Dearest { room, rows, most } => of_dearest(*room, *rows, *most),
     }
 }
 
@@ -95,7 +102,7 @@ pub fn encode(cases: &[Case]) -> Vec<u8> {
 #[cfg(test)]
 mod tests {
     use super::super::build::{call, charge_by, ladder_by, net, net_and_offset, offset};
-    use super::super::build::{shortest, small_bank};
+    use super::super::build::{dearest, shortest, small_bank};
     use super::super::cases;
     use super::super::page::read;
     use super::*;
@@ -118,7 +125,8 @@ mod tests {
                 Call::Net { room }
                 | Call::Offset { room }
                 | Call::NetAndOffset { room }
-                | Call::Shortest { room } => {
+                | Call::Shortest { room }
+                | Call::Dearest { room, .. } => {
                     assert!(*room <= 65_536);
                 }
                 Call::ChargeBy { table } | Call::InterestLadderBy { table, .. } => {
@@ -170,6 +178,14 @@ mod tests {
         of(offset, 11);
         of(net_and_offset, 12);
         of(shortest, 13);
+    }
+
+    /// Catches numbers in each other's place, or of fewer bytes.
+    #[test]
+    fn the_rows_come_before_the_largest_amount() {
+        let record = [14, 4, 3, 0, 0, 5, 6, 7, 8, 9, 10, 11, 12];
+        let case = dearest(0x0807_0605, 0x0c0b_0a09, 772);
+        assert_eq!(super::record(&case), record);
     }
 
     #[test]

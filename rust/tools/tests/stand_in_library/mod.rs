@@ -8,8 +8,8 @@ use std::process::{Command, Output};
 use std::sync::OnceLock;
 use std::{env, fs};
 
-/// The eleven calls, as the C interface names them.
-pub const CALLS: [&str; 11] = [
+/// The twelve calls, as the C interface names them.
+pub const CALLS: [&str; 12] = [
     "check",
     "charge",
     "interest_ladder",
@@ -20,6 +20,7 @@ pub const CALLS: [&str; 11] = [
     "offset",
     "net_and_offset",
     "shortest",
+    "dearest",
     "table",
 ];
 
@@ -37,13 +38,14 @@ fn build(command: &mut Command) {
 }
 
 /// The files of the stand-in.
-const SOURCES: [&str; 6] = [
+const SOURCES: [&str; 7] = [
     "stand_in",
     "small_bank",
     "net",
     "offset",
     "net_and_offset",
     "shortest",
+    "dearest",
 ];
 
 /// Compiles a file of the stand-in into a folder and gives the object.

@@ -5,7 +5,7 @@ use native.Mathlib.Omega.{arith}
 use Rattle.sums.specs.Sums.{span}
 use Rattle.ladder.specs.Position.{gross, total}
 use Rattle.ladder.specs.declared.Table.{Table}
-use Rattle.ladder.specs.Table.{weightIn}
+use Rattle.ladder.specs.Table.{mostWeight, weightIn}
 use Rattle.ladder.specs.Inner.Steps.{limit, bands, bandCount}
 use Rattle.ladder.proofs.Totals.{band-within}
 use Rattle.ladder.proofs.Agreeing.{Agree, gross-agree, interest-agree}
@@ -29,7 +29,8 @@ read c = arrays-agree bandCount _ _ _ _ (c .before .before .before .weighted-ban
 -- the weighted bands are within the ladder's limit
 weighted-fits : (start : tie.Start) → gross (total (weightedFrom (by start) (start .args .longs .now) (start .args .shorts .now) (start .args .first)) (span 0 bandCount)) ≤ limit
 weighted-fits start =
-    omega (arith, start .pre .1 .2, weighted-gross (by start) (start .pre .0) (bandsFrom (start .args .longs .now) (start .args .shorts .now) (start .args .first)) (span 0 bandCount))
+    let tables = bandsFrom (start .args .longs .now) (start .args .shorts .now) (start .args .first) in
+    omega (arith, start .pre .1 .2, weighted-gross (by start) mostWeight (start .pre .0 .weights) tables (span 0 bandCount))
 
 each-fits : (start : tie.Start) (k : ℕ) → k < bandCount → gross (weightedFrom (by start) (start .args .longs .now) (start .args .shorts .now) (start .args .first) k) ≤ limit
 each-fits start k h =

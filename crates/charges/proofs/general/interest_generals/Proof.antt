@@ -8,6 +8,7 @@ use lib.ListN.{length, getD}
 use Rattle.sums.specs.Sums.{span}
 use Rattle.sums.proofs.Spans.{Rated, rated-size}
 use Rattle.ladder.specs.declared.Table.{Table}
+use Rattle.ladder.specs.Table.{mostWeight}
 use Rattle.ladder.specs.Interest.{zones, matches, interestFigures}
 use Rattle.ladder.specs.Inner.Steps.{bandCount, TableBounds}
 use Rattle.ladder.proofs.AddsUp.{charge-within}
@@ -32,7 +33,7 @@ rate table ok longs shorts g =
     omega (
       arith,
       charge-within (table .percents) (ok .percents) zones (weightedFrom table longs shorts (currencyAt g)),
-      weighted-gross table ok (bandsFrom longs shorts (currencyAt g)) (span 0 bandCount),
+      weighted-gross table mostWeight (ok .weights) (bandsFrom longs shorts (currencyAt g)) (span 0 bandCount),
     )
 
 abbrev Inv-loop : tie.InvT-loop
