@@ -29,6 +29,9 @@ static uint8_t bad[sizeof book];
 /* A small bank's book: the last two classes of the one above. */
 static uint8_t small[8 + 2 * ROWS * 16];
 
+/* As many options as there can be, of each class and right in turn, whose deltas are rounded. */
+static uint8_t options[2 + ROWS * 18];
+
 static uint64_t out[75];
 static uint8_t table[36];
 
@@ -59,6 +62,12 @@ static void fill(void)
         both[8 + 16 * row + 6] = row % 100;
     memcpy(bad, book, sizeof book);
     bad[sizeof bad - 16] = 32;
+    options[0] = ROWS % 256;
+    options[1] = ROWS / 256;
+    for (size_t row = 0; row < ROWS; row++) {
+        uint8_t option[18] = {2 + row % 3, row % 32, row % 4, row % 3 == 0, 7, 0, 0, 0, 0x0f, 0x27, 5, 0, 3, 0, 2, 0};
+        memcpy(options + 2 + 18 * row, option, sizeof option);
+    }
 }
 
 static void check(void) { market_risk_check(book, sizeof book, out); }
@@ -81,6 +90,8 @@ static void shortest(void) { market_risk_shortest(bad, sizeof bad, joined, sizeo
 
 /* As many rows as there can be. */
 static void dearest(void) { market_risk_dearest(4 * ROWS, 1000000000, joined, sizeof joined, out); }
+
+static void price(void) { market_risk_options(options, sizeof options, joined, sizeof joined, out); }
 
 static size_t used(void (*call)(void))
 {
@@ -117,6 +128,6 @@ int main(void)
     refused += print_used("commodity_ladder", commodity_ladder) + print_used("small_bank", small_bank);
     refused += print_used("join", join) + print_used("net", net);
     refused += print_used("offset", offset) + print_used("net_and_offset", net_and_offset);
-    refused += print_used("shortest", shortest);
-    return refused + print_used("dearest", dearest);
+    refused += print_used("shortest", shortest) + print_used("dearest", dearest);
+    return refused + print_used("options", price);
 }

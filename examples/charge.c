@@ -4,7 +4,8 @@
  * commodities, those of one bond, long and short, before it is netted and after, those of
  * three swap legs, before they offset each other and after, in two orders, and those of legs
  * of one issue, netted and offset in one call. Last the shortest files that show why books are
- * refused, and the dearest books of some rows of at most an amount.
+ * refused, the dearest books of some rows of at most an amount, and options: the rows of their
+ * deltas and what these cost, gamma and vega.
  *
  *     cc -Wall -Wextra -Werror -Iinclude examples/charge.c target/staticlib/libmarket_risk.a -o charge
  */
@@ -101,6 +102,27 @@ static const uint8_t own[36] = {
     20, 30, 30, 30, 50, 80,
 };
 
+/* C.4 of the Amendment, 50 times: a sold call on commodity 5. Amount 25,000 (0x61a8); delta 0.7210 (7,210 is 0x1c2a); gamma 170; vega 84;
+ * volatility 20 points (2,000 is 0x07d0); 1,081 days (0x0439). The row is short 18,025, of which 15% are 2,703,750,000 mils. Gamma costs half of
+ * 25,000 x 170 x 15 x 15, which is 478,125,000, and vega 84 x 2,000 x 2,500, which is 420,000,000. */
+static const uint8_t sold[2 + 18] = {
+    1, 0,
+    4, 5, 2, 0, 0xa8, 0x61, 0, 0, 0x2a, 0x1c, 170, 0, 84, 0, 0xd0, 0x07, 0x39, 0x04,
+};
+
+/* The same, and after it: a sold put on gold, 10, of delta 0, gamma 5; a bought put on commodity 5, 12,500 (0x30d4), delta 0.2790 (0x0ae6), with the
+ * gamma, vega, volatility and days of the call; a bought call on the index of market 3, of 3, delta 0.3333 (0x0d05), gamma 9, vega 2, volatility 1 point.
+ * Gold gives no row, and 10 x 5 x 8 x 8 / 2 = 1,600 of gamma. The put is short 3,488, half a unit more than exact: with the call's 18,025 that is
+ * 21,513, of which 15% are 3,226,950,000. Its gamma leaves half of the call's, 239,062,500, and its vega nothing. The index is long 1, not 0.9999: 2% and
+ * 8% of it are 20,000 and 80,000. It is bought, so that its gamma costs nothing; its vega costs 2 x 100 x 2,500 = 500,000. */
+static const uint8_t hedged[2 + 4 * 18] = {
+    4, 0,
+    4, 5, 2, 0, 0xa8, 0x61, 0, 0, 0x2a, 0x1c, 170, 0, 84, 0, 0xd0, 0x07, 0x39, 0x04,
+    3, 0, 3, 0, 10,   0,    0, 0, 0,    0,    5,   0, 0,  0, 0,    0,    0,    0,
+    4, 5, 1, 0, 0xd4, 0x30, 0, 0, 0xe6, 0x0a, 170, 0, 84, 0, 0xd0, 0x07, 0x39, 0x04,
+    2, 3, 0, 3, 3,    0,    0, 0, 0x05, 0x0d, 9,   0, 2,  0, 100,  0,    0,    0,
+};
+
 /* Prints the weights and the per cents of a table. */
 static void print_table(const char *name, const uint8_t table[36])
 {
@@ -122,22 +144,28 @@ static void print_currencies(const uint64_t specifics[32], const uint64_t genera
     }
 }
 
-static void print_report_under(const uint8_t *table, size_t table_len, const char *name, const uint8_t *book, size_t len)
+/* Prints the six charges and the total. */
+static void print_figures(const uint64_t figures[7])
 {
-    static const char *const figures[7] = {
+    static const char *const names[7] = {
         "interest-specific", "interest-general", "equity-specific", "equity-general",
         "fx", "commodity", "total",
     };
+
+    for (int i = 0; i < 7; i++)
+        printf("%s %" PRIu64 "\n", names[i], figures[i]);
+}
+
+static void print_report_under(const uint8_t *table, size_t table_len, const char *name, const uint8_t *book, size_t len)
+{
     uint64_t out[75];
 
     market_risk_charge(book, len, table, table_len, out);
     printf("%s\n", name);
-    if (out[0] != 0) {
+    if (out[0] != 0)
         printf("refused %" PRIu64 " row %" PRIu64 "\n", out[0], out[1]);
-    } else {
-        for (int i = 0; i < 7; i++)
-            printf("%s %" PRIu64 "\n", figures[i], out[3 + i]);
-    }
+    else
+        print_figures(out + 3);
     printf("taken %" PRIu64 "\n", out[10]);
     print_currencies(out + 11, out + 43);
 }
@@ -243,7 +271,7 @@ static void print_shortest(const char *name, const uint8_t *book, size_t len)
 }
 
 /* Charges the dearest book of some rows of at most an amount, and prints the total that is told of it. There is room for two rows. */
-static void print_dearest(const char *name, size_t rows, size_t most)
+static void print_dearest(const char *name, size_t rows, uint64_t most)
 {
     uint8_t book[8 + 2 * 16];
     uint64_t result[5];
@@ -255,6 +283,49 @@ static void print_dearest(const char *name, size_t rows, size_t most)
     }
     print_report(name, book, result[3]);
     printf("told %" PRIu64 "\n", result[4]);
+}
+
+/* A number of four bytes. */
+static uint32_t four(const uint8_t *at)
+{
+    return at[0] | at[1] << 8 | at[2] << 16 | (uint32_t)at[3] << 24;
+}
+
+/* Prints the rows of the options' deltas and what they cost, and gamma and vega, which are in none of these charges. There is room for three rows. */
+static void print_options(const char *name, const uint8_t *table, size_t len)
+{
+    uint8_t book[8 + 3 * 16];
+    uint64_t result[17];
+
+    market_risk_options(table, len, book, sizeof book, result);
+    printf("%s\n", name);
+    if (result[0] != 0) {
+        printf("refused %" PRIu64 " row %" PRIu64 "\n", result[0], result[1]);
+        return;
+    }
+    for (const uint8_t *row = book + 8; row < book + result[3]; row += 16)
+        printf("row group %d kind %d days %d long %" PRIu32 " short %" PRIu32 "\n", row[0], row[1], row[2] + 256 * row[3], four(row + 8), four(row + 12));
+    print_figures(result + 10);
+    printf("gamma equity %" PRIu64 " fx %" PRIu64 " commodity %" PRIu64 "\n", result[4], result[5], result[6]);
+    printf("vega equity %" PRIu64 " fx %" PRIu64 " commodity %" PRIu64 "\n", result[7], result[8], result[9]);
+}
+
+/* The tables above, one without options, and three that are refused. */
+static void print_all_options(void)
+{
+    static const uint8_t none[2];
+    uint8_t bad[sizeof hedged], more[sizeof hedged];
+
+    memcpy(bad, hedged, sizeof hedged);
+    bad[2 + 2 * 18] = 1; /* the third is on interest */
+    memcpy(more, hedged, sizeof hedged);
+    more[2 + 18 + 8] = 1; /* the one on gold has a delta */
+    print_options("option table of one sold call", sold, sizeof sold);
+    print_options("option table of four", hedged, sizeof hedged);
+    print_options("option table without options", none, sizeof none);
+    print_options("option table of four without its last byte", hedged, sizeof hedged - 1);
+    print_options("option table of four, the third on interest", bad, sizeof bad);
+    print_options("option table of four that all give a row, for which there is no room", more, sizeof more);
 }
 
 int main(void)
@@ -307,5 +378,6 @@ int main(void)
     print_dearest("dearest book of three rows, for which there is no room", 3, 100);
     print_dearest("dearest book of 4,001 rows", 4001, 100);
     print_dearest("dearest book of two rows of at most 0", 2, 0);
+    print_all_options();
     return 0;
 }

@@ -7,11 +7,12 @@
  *
  *     number   0 when the call is accepted, else document 01's number, 1 to 12, or one of
  *              document 02: 13 and 14, an issue that cannot be netted; 15, a floating-rate note
- *              with fixing over 360 days, or final maturity over 36,000 or before fixing; 18 and
- *              19, a refused table; 20, interest or equity rows in a small bank's book; 22, a
- *              dearest book of too many rows or of an amount out of its range
- *     row      the refused row, counted from 0 through the whole file; 0 for all but 4 to 9
- *              and 13 to 15
+ *              with fixing over 360 days, or final maturity over 36,000 or before fixing; 16 and
+ *              17, a refused option table; 18 and 19, a refused table; 20, interest or equity rows
+ *              in a small bank's book; 22, a dearest book of too many rows or of an amount out of
+ *              its range
+ *     row      the refused row, counted from 0 through the whole file, or for 17 the refused
+ *              option, counted from 0 in the option table; 0 for all but 4 to 9, 13 to 15 and 17
  *     book     1 for a fault of the second book of a join, else 0
  *
  * When the number is not 0, every other entry is 0. Charges are in mils, thousandths of
@@ -30,14 +31,15 @@
  * Pointers must hold as many bytes or entries as is said. A null pointer with length 0 is
  * a file or table of no bytes, or an output without room; a result is never null. A result
  * must not overlap a book or a table, nor the output of a call that writes a book one that it is
- * given. No call keeps a pointer, allocates, or has state of its own, so calls may run at once.
+ * given, or its option table. No call keeps a pointer, allocates, or has state of its own, so calls
+ * may run at once.
  *
  * The stack that a call takes, in bytes, measured on x86-64 and rounded up. No call
  * recurses, so no book and no table makes it more.
  *
  *     market_risk_check              200
  *     market_risk_table              100
- *     market_risk_charge           16000
+ *     market_risk_charge           17000
  *     market_risk_interest_ladder   1000
  *     market_risk_commodity_ladder   600
  *     market_risk_small_bank       15000
@@ -47,9 +49,10 @@
  *     market_risk_net_and_offset   82000
  *     market_risk_shortest           200
  *     market_risk_dearest            100
+ *     market_risk_options          17000
  *
- * The charge, the small bank, netting and offsetting call memset. Where the loader binds it at its
- * first call, that takes some 3000 bytes more, once.
+ * The charge, the small bank, netting, offsetting and options call memset or memcpy. Where the
+ * loader binds these at their first call, that takes some 3000 bytes more, once.
  */
 #ifndef MARKET_RISK_H
 #define MARKET_RISK_H
@@ -191,8 +194,47 @@ void market_risk_shortest(const uint8_t *book, size_t len, uint8_t *out, size_t 
  *     22   rows over 4,000, or most not from 1 to 1,000,000,000
  *     12   an output shorter than the book
  * result: number, row (0), book (0); the length of the written book; its total. */
-void market_risk_dearest(size_t rows, size_t most, uint8_t *out, size_t out_len,
+void market_risk_dearest(size_t rows, uint64_t most, uint8_t *out, size_t out_len,
                          uint64_t result[5]);
+
+/* Charges options on equity, foreign exchange and commodities by the delta-plus method: writes the book of
+ * their deltas to the front of out, which has out_len bytes, and gives what it costs under
+ * market_risk_table's table, and beside it gamma and vega. An option table is a count of 2 bytes, at most
+ * 1,000, and as many options of 18 bytes, low byte first:
+ *     byte 0        class: 2 equity, 3 foreign exchange, 4 commodities
+ *     byte 1        group, 0 to 31
+ *     byte 2        right: 0 bought call, 1 bought put, 2 sold call, 3 sold put
+ *     byte 3        kind: in equity 1 to 3, in the other classes 0
+ *     bytes 4-7     V, the amount of the underlying, 1 to 1,000,000 thousands
+ *     bytes 8-9     D, delta, 0 to 10,000 ten-thousandths
+ *     bytes 10-11   G, gamma: by how many ten-thousandths delta changes when the underlying moves by 1%
+ *     bytes 12-13   vega: thousands for a point of volatility
+ *     bytes 14-15   volatility, in hundredths of a point
+ *     bytes 16-17   days: in commodities 0 to 36,000, in the other classes 0
+ * Delta, gamma and vega stand without their signs; gamma, vega and volatility may be anything.
+ * An option whose D is not 0 gives a row of its class, group, kind and days, with coupon and issue 0, of
+ * V * D / 10000 thousands rounded up: long for bought calls and sold puts, short for bought puts and sold
+ * calls. In each class the rows stand in the order of the table. The book is always accepted, and has no
+ * interest rows.
+ * Gamma and vega count as positive where the option is bought and as negative where it is sold, a call as
+ * a put, also of options whose D is 0. They are added for each underlying, which is a class and group,
+ * whatever the kinds and days, and charged in mils:
+ *     gamma   V * G * m * m / 2, m being 8, in commodities 15; the absolute value of a sum below zero, of
+ *             which a half is rounded up once, after the sum. Other sums are not charged, nor set against
+ *             those of another underlying
+ *     vega    vega * volatility * 2500; the absolute value of every sum
+ * Both are given by class, and stand in none of the six charges nor in the total: the whole charge is the
+ * total, the three of gamma and the three of vega together. Bytes past the written book keep their values,
+ * and a refused call writes none. The book is never longer than 8 + 16 * 1000 bytes: 16,008 are always
+ * enough. Tried in this order:
+ *     16   fewer than 2 bytes, a count over 1,000, or a length that is not 2 + 18 * count
+ *     17   an option with a field out of its range; the first such option is given
+ *     12   an output shorter than the book
+ * result: number, row, book (0); the length of the written book; gamma of equity, foreign exchange and
+ * commodities; vega of the same; the six charges of the book, in market_risk_charge's order, of which the
+ * two of interest are 0; its total. */
+void market_risk_options(const uint8_t *table, size_t table_len, uint8_t *out, size_t out_len,
+                         uint64_t result[17]);
 
 #ifdef __cplusplus
 }

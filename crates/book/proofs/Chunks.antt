@@ -30,14 +30,14 @@ row-count body = chunk-count (length body / rowSize) body
 
 -- a part of a list reads as the list does, from the part's start on
 module _ (s : List ℕ) (start size : ℕ) where
-  part-byte : (at : ℕ) → at < size → getD (take size (drop start s)) at 0 ≡ getD s (start + at) 0
+  pub part-byte : (at : ℕ) → at < size → getD (take size (drop start s)) at 0 ≡ getD s (start + at) 0
   part-byte at h = rw (getD-take, getD-drop)
 
-  part-u16 : (at : ℕ) → at + 2 ≤ size → u16At (take size (drop start s)) at ≡ u16At s (start + at)
+  pub part-u16 : (at : ℕ) → at + 2 ≤ size → u16At (take size (drop start s)) at ≡ u16At s (start + at)
   unfolding u16At
   part-u16 at h = rw (part-byte at (omega arith), part-byte (at + 1) (omega arith), ← add-assoc)
 
-  part-u32 : (at : ℕ) → at + 4 ≤ size → u32At (take size (drop start s)) at ≡ u32At s (start + at)
+  pub part-u32 : (at : ℕ) → at + 4 ≤ size → u32At (take size (drop start s)) at ≡ u32At s (start + at)
   unfolding u32At
   part-u32 at h = rw (part-u16 at (omega arith), part-u16 (at + 2) (omega arith), ← add-assoc)
 

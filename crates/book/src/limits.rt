@@ -34,7 +34,7 @@ fn most_kind(class: usize) -> u8
     }
 }
 
-fn wrong_kind(class: usize, kind: u8) -> bool
+pub fn wrong_kind(class: usize, kind: u8) -> bool
     ensures { λ r. ⌜ r ≡ (ltb kind (leastKind class) || ltb (mostKind class) kind) ⌝ }
 {
     kind < least_kind(class) || most_kind(class) < kind
@@ -53,7 +53,7 @@ pub fn group_refusal(class: usize, row: Row) -> u8
     0
 }
 
-fn most_days(class: usize) -> u16
+pub fn most_days(class: usize) -> u16
     ensures { λ r. ⌜ r ≡ mostDays class ⌝ }
 {
     match class {

@@ -4,7 +4,7 @@ mod bands;
 mod general;
 mod ladders;
 mod pass;
-mod reports;
+pub mod reports;
 mod slots;
 mod tables;
 mod weights;

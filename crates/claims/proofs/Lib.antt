@@ -23,3 +23,5 @@ pub mod Shortest
 pub mod ShortestBooks
 pub mod Dearest
 pub mod DearestBooks
+pub mod Options
+pub mod OptionsBooks

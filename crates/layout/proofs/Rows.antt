@@ -48,7 +48,7 @@ unfolding flatMap
 rows-back [] = none-alone
 rows-back (row ∷ rows) = rw (rows-append 1 (rowBytes row) (flatMap rowBytes rows) (row-length row), row-alone row, rows-back rows)
 
-rows-length : (rows : List Row) → length (flatMap rowBytes rows) ≡ rowSize * length rows
+pub rows-length : (rows : List Row) → length (flatMap rowBytes rows) ≡ rowSize * length rows
 unfolding flatMap
 rows-length [] = refl
 rows-length (row ∷ rows) = rw length-append (omega (arith, row-length row, rows-length rows))

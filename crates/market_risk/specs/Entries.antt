@@ -11,6 +11,7 @@ use Rattle.layout.specs.declared.Written.{Written}
 use Rattle.join.specs.declared.Joined.{Joined}
 use Rattle.shortest.specs.declared.Shown.{Shown}
 use Rattle.dearest.specs.declared.Costed.{Costed}
+use Rattle.options.specs.declared.Priced.{Priced}
 use Rattle.netting.specs.declared.Netted.{Netted}
 
 -- number, row, book (document 01, Who is told no, and why)
@@ -70,3 +71,8 @@ shownEntries shown = refusalEntries (shown .refusal) ++ (shown .length ∷ cond 
 -- the refusal, the length of the dearest book, its total (P14)
 unfoldable pub costedEntries : Costed → List ℕ
 costedEntries costed = refusalEntries (costed .refusal) ++ (costed .length ∷ costed .total ∷ [])
+
+-- the refusal, the length of the book of the deltas, gamma and vega of equity, foreign exchange and commodities, the figures of the book (P9)
+unfoldable pub pricedEntries : Priced → List ℕ
+pricedEntries priced =
+    (refusalEntries (priced .refusal) ++ (priced .length ∷ [])) ++ ((priced .gammas ++ priced .vegas) ++ reportFigures (priced .report))

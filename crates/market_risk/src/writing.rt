@@ -6,10 +6,11 @@ ghost use lib.ListN.{length as len};
 ghost use Rattle.join.specs.Joined.{joinedOf, joinOutput};
 ghost use Rattle.shortest.specs.Shortest.{shortestOf, shortestOutput};
 ghost use Rattle.dearest.specs.Dearest.{dearestOf, dearestOutput};
+ghost use Rattle.options.specs.Options.{pricedOf, pricingOutput};
 ghost use Rattle.netting.specs.Netted.{nettedOf, nettingOutput};
 ghost use Rattle.offsetting.specs.Offset.{offsetOf, offsettingOutput};
 ghost use Rattle.offsetting.specs.NetOffset.{netOffsetOf, netOffsetOutput};
-ghost use Rattle.market_risk.specs.Entries.{refusalEntries, joinedEntries, nettedEntries, writtenEntries, shownEntries, costedEntries};
+ghost use Rattle.market_risk.specs.Entries.{refusalEntries, joinedEntries, nettedEntries, writtenEntries, shownEntries, costedEntries, pricedEntries};
 
 // The entries of a call with one figure besides the length.
 fn entries(refusal: Refusal, length: usize, figure: u64) -> [u64; 5]
@@ -93,4 +94,35 @@ pub extern "C" fn market_risk_dearest(rows: usize, most: u64, out: &mut [u8], re
 {
     let costed = dearest::dearest(rows, most, out);
     *result = entries(costed.refusal, costed.length, costed.total);
+}
+
+// Writes the book of an option table's deltas into out, and charges gamma, vega and the book: bytes past it keep their values, of a refused call all do.
+#[no_mangle]
+pub extern "C" fn market_risk_options(table: &[u8], out: &mut [u8], result: &mut [u64; 17])
+    ensures { λ r. ⌜ now (out .exit) ≡ pricingOutput (now (table .entry)) (now (out .entry)) ⌝ }
+    ensures { λ r. ⌜ now (result .exit) ≡ pricedEntries (pricedOf (now (table .entry)) (len (now (out .entry)))) ⌝ }
+{
+    let priced = options::options(table, out);
+    let gammas = priced.gammas;
+    let vegas = priced.vegas;
+    let report = priced.report;
+    *result = [
+        priced.refusal.number as u64,
+        priced.refusal.row as u64,
+        priced.refusal.book as u64,
+        priced.length as u64,
+        gammas[0],
+        gammas[1],
+        gammas[2],
+        vegas[0],
+        vegas[1],
+        vegas[2],
+        report.interest.specific,
+        report.interest.general,
+        report.equity.specific,
+        report.equity.general,
+        report.exchange,
+        report.commodity,
+        report.total,
+    ];
 }

@@ -1,5 +1,6 @@
 // The line of a call: its name and every figure that it gives.
 use book::Refusal;
+use charges::Report;
 use libc::STDOUT_FILENO;
 use netting::Netted;
 ghost use Prim.Native.Nat.{_<_};
@@ -23,6 +24,24 @@ fn list(values: [u64; 32]) {
     }
 }
 
+// The figures of equity, foreign exchange and commodities.
+fn triple(values: [u64; 3]) {
+    figure(values[0]);
+    figure(values[1]);
+    figure(values[2]);
+}
+
+// The six charges and the total.
+fn figures(report: Report) {
+    figure(report.interest.specific);
+    figure(report.interest.general);
+    figure(report.equity.specific);
+    figure(report.equity.general);
+    figure(report.exchange);
+    figure(report.commodity);
+    figure(report.total);
+}
+
 fn end() {
     io::write_all(STDOUT_FILENO, b"\n");
 }
@@ -35,13 +54,7 @@ pub fn check(book: &[u8]) {
 pub fn charge(book: &[u8], table: &[u8]) {
     let report = charges::charge(book, table);
     start(b"charge", report.refusal);
-    figure(report.interest.specific);
-    figure(report.interest.general);
-    figure(report.equity.specific);
-    figure(report.equity.general);
-    figure(report.exchange);
-    figure(report.commodity);
-    figure(report.total);
+    figures(report);
     figure(report.taken as u64);
     let specifics = report.specifics;
     list(specifics);
@@ -135,6 +148,20 @@ pub fn shortest(book: &[u8], out: &mut [u8]) {
     start(b"shortest", shown.refusal);
     figure(shown.length as u64);
     figure(shown.accepted as u64);
+    figure(checksum(out));
+    end();
+}
+
+pub fn options(table: &[u8], out: &mut [u8]) {
+    let priced = options::options(table, out);
+    start(b"options", priced.refusal);
+    figure(priced.length as u64);
+    let gammas = priced.gammas;
+    triple(gammas);
+    let vegas = priced.vegas;
+    triple(vegas);
+    let report = priced.report;
+    figures(report);
     figure(checksum(out));
     end();
 }

@@ -60,7 +60,7 @@ fn answer_join(in_runs: bool) -> bool {
     write_into(5, &a[..m], &b[..n], room)
 }
 
-// Joins two books, nets the first, offsets it, does both, or shows its refusal, into an output of as many bytes as there is room for, each 165 before.
+// Joins two books, nets the first, offsets it, does both, shows its refusal, or prices an option table, into an output of as many bytes as there is room for, each 165 before.
 fn write_into(call: u8, a: &[u8], b: &[u8], room: usize) -> bool {
     let mut out = [165u8; 65536];
     if out.len() < room {
@@ -72,12 +72,13 @@ fn write_into(call: u8, a: &[u8], b: &[u8], room: usize) -> bool {
         10 => lines::net(a, lent),
         11 => lines::offset(a, lent),
         12 => lines::net_and_offset(a, lent),
+        15 => lines::options(a, lent),
         _ => lines::shortest(a, lent),
     }
     true
 }
 
-// A call that writes one book.
+// A call that writes a book of one other, or of an option table.
 fn answer_written(call: u8, in_runs: bool) -> bool {
     let room = input::read_u32();
     let length = input::read_u32();
@@ -116,6 +117,7 @@ fn answer_next() -> bool {
         9 => answer_standard(call, in_runs),
         10..=13 => answer_written(call, in_runs),
         14 => answer_dearest(),
+        15 => answer_written(call, in_runs),
         _ => false,
     }
 }

@@ -40,7 +40,7 @@ pub(crate) fn field<T: TryFrom<u64>>(name: &str, text: &str) -> Result<T, String
 }
 
 /// The names that a class or kind may have, for a message.
-fn choices<'a>(names: impl Iterator<Item = &'a str>) -> String {
+pub(crate) fn choices<'a>(names: impl Iterator<Item = &'a str>) -> String {
     names.collect::<Vec<_>>().join(", ")
 }
 
@@ -78,28 +78,33 @@ fn row(line: &str) -> Result<(usize, Row), String> {
     Ok((number, row))
 }
 
-/// Reads CSV text. Blank lines are passed over; rows keep their order within a class.
-pub fn parse(text: &str) -> Result<Parsed, LineError> {
+/// The lines below a header, each read by itself, with their numbers. Blank lines are passed over.
+pub(crate) fn below<T>(
+    header: &str,
+    text: &str,
+    read: impl Fn(&str) -> Result<T, String>,
+) -> Result<Vec<(usize, T)>, LineError> {
     let text = text.strip_prefix('\u{feff}').unwrap_or(text);
-    let mut lines = text
-        .lines()
-        .enumerate()
-        .map(|(at, line)| (at + 1, line.trim()));
-    let fault = |line: usize, what: String| Err(LineError { line, what });
-    match lines.next() {
-        Some((_, HEADER)) => (),
-        _ => return fault(1, format!("the header must be exactly {HEADER}")),
+    let mut lines = (1..).zip(text.lines().map(str::trim));
+    if lines.next().map(|(_, line)| line) != Some(header) {
+        let what = format!("the header must be exactly {header}");
+        return Err(LineError { line: 1, what });
     }
+    let rows = lines.filter(|(_, line)| !line.is_empty());
+    rows.map(|(line, row)| match read(row) {
+        Ok(row) => Ok((line, row)),
+        Err(what) => Err(LineError { line, what }),
+    })
+    .collect()
+}
+
+/// Reads CSV text. Rows keep their order within a class.
+pub fn parse(text: &str) -> Result<Parsed, LineError> {
     let mut parsed = Parsed::default();
     let mut numbers: [Vec<usize>; 4] = Default::default();
-    for (number, line) in lines.filter(|(_, line)| !line.is_empty()) {
-        match row(line) {
-            Ok((class, row)) => {
-                parsed.book.classes[class].push(row);
-                numbers[class].push(number);
-            }
-            Err(what) => return fault(number, what),
-        }
+    for (number, (class, row)) in below(HEADER, text, row)? {
+        parsed.book.classes[class].push(row);
+        numbers[class].push(number);
     }
     parsed.lines = numbers.concat();
     Ok(parsed)

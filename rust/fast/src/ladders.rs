@@ -78,10 +78,10 @@ pub fn interest(
     both
 }
 
-/// The general equity charge.
-pub fn equity(sums: &Sums) -> u64 {
-    let nets = sums.equity.iter().map(|net| net.unsigned_abs());
-    80_000 * nets.sum::<u64>()
+/// The general equity charge of the nets of all markets.
+pub fn equity(nets: &[i64; 32]) -> u64 {
+    let open = nets.iter().map(|net| net.unsigned_abs());
+    80_000 * open.sum::<u64>()
 }
 
 /// The foreign exchange charge of the nets of all groups.
@@ -107,9 +107,7 @@ pub fn commodity(bands: &Commodity) -> [u64; 4] {
     [matches, carried, residual, charge]
 }
 
-/// The commodity charge.
-pub fn commodities(sums: &Sums) -> u64 {
-    groups(sums.commodities)
-        .map(|group| commodity(&sums.commodity[group])[3])
-        .sum()
+/// The charge of the commodities whose bits are set.
+pub fn commodities(bands: &[Commodity; 32], used: u32) -> u64 {
+    groups(used).map(|group| commodity(&bands[group])[3]).sum()
 }

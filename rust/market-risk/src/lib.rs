@@ -2,7 +2,8 @@
 //!
 //! A book is the bytes of document 01's book file. Each call answers with its figures,
 //! or with the [`Refusal`] that says who is told no and why. A charge and an interest ladder
-//! are computed under a [`Table`] of weights and per cents.
+//! are computed under a [`Table`] of weights and per cents. Options are charged from a table of
+//! their own, by [`options`].
 //!
 //! ```
 //! // Market 3: an ordinary share long 100, an index short 40 (in thousands).
@@ -24,6 +25,7 @@ mod dearest;
 mod net;
 mod net_and_offset;
 mod offset;
+mod options;
 pub mod raw;
 mod refusal;
 mod shortest;
@@ -34,6 +36,7 @@ pub use dearest::{dearest, dearest_book, Dearest};
 pub use net::{net, netted, Netted};
 pub use net_and_offset::{net_and_offset, net_and_offset_book};
 pub use offset::{offset, offset_book};
+pub use options::{options, options_book, ByClass, Options};
 pub use refusal::Refusal;
 pub use shortest::{shortest, shortest_file, Shortest};
 pub use small_bank::{small_bank, SmallBank};

@@ -70,7 +70,14 @@ mod c {
         );
         pub fn market_risk_dearest(
             rows: usize,
-            most: usize,
+            most: u64,
+            out: *mut u8,
+            out_len: usize,
+            result: *mut u64,
+        );
+        pub fn market_risk_options(
+            table: *const u8,
+            table_len: usize,
             out: *mut u8,
             out_len: usize,
             result: *mut u64,
@@ -208,5 +215,28 @@ pub fn shortest(book: &[u8], out: &mut [u8], result: &mut [u64; 5]) {
 /// Number, row, book; the length of the dearest book at the front of `out`; its total.
 pub fn dearest(rows: usize, most: usize, out: &mut [u8], result: &mut [u64; 5]) {
     // SAFETY: as in `check`.
-    unsafe { c::market_risk_dearest(rows, most, out.as_mut_ptr(), out.len(), result.as_mut_ptr()) }
+    unsafe {
+        c::market_risk_dearest(
+            rows,
+            most as u64,
+            out.as_mut_ptr(),
+            out.len(),
+            result.as_mut_ptr(),
+        )
+    }
+}
+
+/// Number, row, book; the length of the book of the deltas at the front of `out`; gamma of equity, foreign
+/// exchange and commodities; vega of the same; the six charges of the book and its total.
+pub fn options(table: &[u8], out: &mut [u8], result: &mut [u64; 17]) {
+    // SAFETY: as in `net`.
+    unsafe {
+        c::market_risk_options(
+            table.as_ptr(),
+            table.len(),
+            out.as_mut_ptr(),
+            out.len(),
+            result.as_mut_ptr(),
+        )
+    }
 }

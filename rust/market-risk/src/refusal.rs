@@ -16,9 +16,10 @@ use std::fmt;
 /// ```
 #[derive(Clone, Copy, Debug, PartialEq, Eq)]
 pub struct Refusal {
-    /// 1 to 15, 18 to 20 or 22.
+    /// 1 to 20 or 22.
     pub number: u64,
-    /// The bad row, counted from 0 through the whole file; 0 for all but 4 to 9 and 13 to 15.
+    /// The bad row, counted from 0 through the whole file, or for 17 in the option table; 0 for all but 4 to 9,
+    /// 13 to 15 and 17.
     pub row: u64,
     /// 1 for a fault of the second book of a join, else 0.
     pub book: u64,
@@ -42,9 +43,9 @@ impl Refusal {
         }
     }
 
-    /// Whether the refusal is of one row.
+    /// Whether the refusal is of one row, of a book or of an option table.
     pub fn names_row(&self) -> bool {
-        matches!(self.number, 4..=9 | 13..=15)
+        matches!(self.number, 4..=9 | 13..=15 | 17)
     }
 
     /// The reason in words.
@@ -65,6 +66,8 @@ impl Refusal {
             13 => "group, kind, days or coupon not those of the first row of its issue",
             14 => "the net of its issue is over 1,000,000,000",
             15 => "fixing over 360 days, or final maturity over 36,000 or before fixing",
+            16 => "more than 1,000 options, or the length is not 2 bytes plus 18 for each option counted",
+            17 => "a field of the option out of its range",
             18 => "the table has not 36 bytes",
             19 => "the table's weights fall or exceed 2,000, or its per cents are out of order",
             20 => "interest or equity rows in a small bank's book",

@@ -3,8 +3,8 @@
 
 use market_risk::{charge, commodity_ladder, dearest, dearest_book};
 use market_risk::{interest_ladder, join, joined, net, net_and_offset};
-use market_risk::{net_and_offset_book, netted, offset, offset_book, raw, shortest};
-use market_risk::{shortest_file, small_bank, Refusal, Shortest, Table};
+use market_risk::{net_and_offset_book, netted, offset, offset_book, options, options_book};
+use market_risk::{raw, shortest, shortest_file, small_bank, Refusal, Shortest, Table};
 
 /// A row of 16 bytes with one signed amount: long above zero, short below.
 fn row(group: u8, kind: u8, days: u16, coupon: u16, net: i32) -> [u8; 16] {
@@ -339,4 +339,65 @@ fn dearest_books_and_their_refusals() {
         let refusal = Refusal { number, row, book };
         assert_eq!(dearest(rows, 7, &mut out[..room]), Err(refusal));
     }
+}
+
+/// An option of class, group, right and kind, of delta 1: its amount, gamma, vega, volatility and days.
+fn option(sort: [u8; 4], amount: u32, greeks: [u16; 4]) -> Vec<u8> {
+    let short = [10_000]
+        .into_iter()
+        .chain(greeks)
+        .flat_map(u16::to_le_bytes);
+    let bytes = sort.into_iter().chain(amount.to_le_bytes());
+    bytes.chain(short).collect()
+}
+
+#[test]
+fn options_and_their_refusals() {
+    // A diversified share, 30: 4% and 8%. Gold, 2: 8%. A commodity past the last step, 1: 15%. All are sold.
+    let mut table = vec![3, 0];
+    table.extend(option([4, 0, 3, 0], 1, [4, 3, 1, 36_000]));
+    table.extend(option([2, 1, 3, 2], 30, [1, 1, 1, 0]));
+    table.extend(option([3, 0, 2, 0], 2, [2, 2, 1, 0]));
+    let expected = book([
+        &[],
+        &[row(1, 2, 0, 0, 30)],
+        &[row(0, 0, 0, 0, -2)],
+        &[row(0, 0, 36_000, 0, 1)],
+    ]);
+    let (mut out, mut entries) = (vec![9; 60], [0; 17]);
+    raw::options(&table, &mut out, &mut entries);
+    assert_eq!(out, [&expected[..], &[9; 4]].concat());
+    let (gammas, vegas) = ([960, 128, 450], [2_500, 5_000, 7_500]);
+    let charges = [0, 0, 1_200_000, 2_400_000, 160_000, 150_000, 3_910_000];
+    let by_hand = [&[0, 0, 0, 56][..], &gammas, &vegas, &charges].concat();
+    assert_eq!(entries[..], by_hand);
+    let priced = options(&table, &mut out).unwrap();
+    assert_eq!((priced.interest_specific, priced.interest_general), (0, 0));
+    let fields = vec![
+        priced.length as u64,
+        priced.gamma.equity,
+        priced.gamma.exchange,
+        priced.gamma.commodity,
+        priced.vega.equity,
+        priced.vega.exchange,
+        priced.vega.commodity,
+        priced.equity_specific,
+        priced.equity_general,
+        priced.exchange,
+        priced.commodity,
+        priced.total,
+    ];
+    // All but the charges of interest, which are 0.
+    hold(&[([&entries[..10], &entries[12..]].concat(), fields)]);
+    assert_eq!(options_book(&table), Ok((expected, priced)));
+    // Number and row differ: option 2 has a day.
+    assert_eq!(options(&table, &mut out[..55]).unwrap_err().number, 12);
+    table[2 + 2 * 18 + 16] = 1;
+    raw::options(&table, &mut out, &mut entries);
+    assert_eq!(entries[..3], [17, 2, 0]);
+    assert_eq!(entries[3..], [0; 14]);
+    let [number, row, book, ..] = entries;
+    let refusal = Refusal { number, row, book };
+    assert_eq!(options(&table, &mut out), Err(refusal));
+    assert_eq!(options_book(&table), Err(refusal));
 }

@@ -1,7 +1,7 @@
 //! Results as the calls lay them out: number, row, book, and then the figures.
 
 use crate::{CommodityLadder, InterestLadder, Joined, Netted, Offset, Refusal, Report};
-use crate::{Dearest, Shortest, SmallBank};
+use crate::{Dearest, Options, Shortest, SmallBank};
 
 /// A refusal and figures, of which there must be as many as the call gives.
 fn laid_out<const N: usize>(refusal: Refusal, figures: &[u64]) -> [u64; N] {
@@ -101,5 +101,13 @@ impl SmallBank {
     /// The refusal, foreign exchange, commodities and the total.
     pub fn entries(&self) -> [u64; 6] {
         laid_out(self.refusal, &[self.exchange, self.commodity, self.total])
+    }
+}
+
+impl Options {
+    /// The refusal, the length, three gammas, three vegas, the six charges of the book and its total.
+    pub fn entries(&self) -> [u64; 17] {
+        let figures = [&[self.length][..], &self.gammas, &self.vegas, &self.charges];
+        laid_out(self.refusal, &figures.concat())
     }
 }

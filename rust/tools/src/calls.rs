@@ -1,8 +1,8 @@
-//! The twelve calls with the results of the C interface, by whichever calculation.
+//! The thirteen calls with the results of the C interface, by whichever calculation.
 
 use market_risk::raw;
 
-/// A calculation that answers all twelve calls, writing every entry of each result.
+/// A calculation that answers all thirteen calls, writing every entry of each result.
 pub trait Calls {
     /// What the calculation is called in a message. No two have the same name.
     fn name(&self) -> &'static str;
@@ -29,6 +29,9 @@ pub trait Calls {
     fn shortest(&self, book: &[u8], out: &mut [u8], result: &mut [u64; 5]);
     /// Number, row, book; length; total.
     fn dearest(&self, rows: usize, most: usize, out: &mut [u8], result: &mut [u64; 5]);
+    /// Number, row, book; length; gamma of equity, foreign exchange and commodities; vega of the same; six
+    /// charges of the written book; its total.
+    fn options(&self, table: &[u8], out: &mut [u8], result: &mut [u64; 17]);
     /// Document 01's table.
     fn table(&self, out: &mut [u8; 36]);
 }
@@ -72,6 +75,9 @@ impl Calls for Proved {
     }
     fn dearest(&self, rows: usize, most: usize, out: &mut [u8], result: &mut [u64; 5]) {
         raw::dearest(rows, most, out, result);
+    }
+    fn options(&self, table: &[u8], out: &mut [u8], result: &mut [u64; 17]) {
+        raw::options(table, out, result);
     }
     fn table(&self, out: &mut [u8; 36]) {
         raw::table(out);
@@ -128,6 +134,10 @@ impl Calls for Second {
 
     fn dearest(&self, rows: usize, most: usize, out: &mut [u8], result: &mut [u64; 5]) {
         *result = second::dearest(rows as u64, most as u64, out).entries();
+    }
+
+    fn options(&self, table: &[u8], out: &mut [u8], result: &mut [u64; 17]) {
+        *result = second::options(table, out).entries();
     }
 
     fn table(&self, out: &mut [u8; 36]) {

@@ -51,23 +51,33 @@ pub fn once(inputs: &[&Path]) -> Outcome {
 /// Whether bytes begin with a line of text that has a comma. No accepted book does: eight
 /// printable bytes are counts of 8,224 rows or more, and 4,000 are the most. No text is as short as
 /// the contents alone, which show that refusal.
-fn looks_like_csv(bytes: &[u8]) -> bool {
+pub fn looks_like_csv(bytes: &[u8]) -> bool {
     let first = bytes.split(|byte| *byte == b'\n').next().unwrap_or(bytes);
     let line = first.trim_ascii_end();
     let text = line.iter().all(|byte| !byte.is_ascii_control());
     text && bytes.len() > 8 && line.len() >= 8 && line.contains(&b',')
 }
 
-/// The bytes of a book, accepted or not; CSV text is told apart from one.
-pub fn read_book(path: &Path) -> Result<Vec<u8>, Failure> {
+/// The bytes of a file that should be packed; CSV text is told apart, with what makes it so.
+fn read_packed(path: &Path, name: &str, pack: &str) -> Result<Vec<u8>, Failure> {
     let bytes = read(path)?;
     match looks_like_csv(&bytes) {
         true => Err(no(format!(
-            "{}: looks like CSV text, not a book; make a book of it with market-risk pack first",
+            "{}: looks like CSV text, not {name}; make {name} of it with market-risk {pack} first",
             input(path)
         ))),
         false => Ok(bytes),
     }
+}
+
+/// The bytes of a book, accepted or not.
+pub fn read_book(path: &Path) -> Result<Vec<u8>, Failure> {
+    read_packed(path, "a book", "pack")
+}
+
+/// The bytes of an option table, accepted or not.
+pub fn read_options(path: &Path) -> Result<Vec<u8>, Failure> {
+    read_packed(path, "an option table", "pack --options")
 }
 
 /// What the system knows of an open stream.

@@ -12,6 +12,7 @@ mod ladder;
 mod lines;
 mod net;
 mod offset;
+mod options;
 mod pack;
 mod progress;
 mod report;
@@ -29,7 +30,7 @@ use std::io::Write;
 use std::process::ExitCode;
 
 /// The subcommands, in the order of the help text.
-const COMMANDS: [Command; 14] = [
+const COMMANDS: [Command; 15] = [
     pack::COMMAND,
     unpack::COMMAND,
     report::COMMAND,
@@ -40,6 +41,7 @@ const COMMANDS: [Command; 14] = [
     offset::COMMAND,
     shortest::COMMAND,
     dearest::COMMAND,
+    options::COMMAND,
     table::COMMAND,
     compare::COMMAND,
     bench::COMMAND,

@@ -1,15 +1,17 @@
-//! `pack`: CSV text into a book.
+//! `pack`: CSV text into a book or an option table.
 
 use crate::cli::{no, usage, Args, Command, Failure, Outcome};
 use crate::files::{apart, input, read, write};
+use crate::options;
 use books::csv::{parse, Parsed};
 use books::MOST_ROWS;
 use market_risk::Refusal;
 
 pub const COMMAND: Command = Command {
     name: "pack",
-    brief: "a CSV file into a book",
+    brief: "a CSV file into a book, or into an option table",
     help: "market-risk pack CSV BOOK [--unchecked]
+market-risk pack --options CSV TABLE [--unchecked]
 
 Writes the rows of a CSV file as a book. Its first line must be exactly
 
@@ -31,9 +33,27 @@ A book that the library refuses is not written, and the error names the line.
 
   --unchecked   write the book even if it would be refused; a kind that the
                 class does not know may then be given by its number
+
+With --options the text is a table of options, which market-risk options takes. Its first
+line must be exactly
+
+  class,group,right,kind,amount,delta,gamma,vega,volatility,days
+
+and each other line is one option; options keep their order.
+
+  class       equity, fx or commodity; kind as above
+  right       bought call, bought put, sold call or sold put
+  amount      of the underlying, in thousands
+  delta       in ten-thousandths, without its sign: 0.7210 is 7210
+  gamma       by how many ten-thousandths delta changes when the underlying moves by 1%
+  vega        in thousands for a point of volatility
+  volatility  in hundredths of a point
+  days        of the underlying, as in a book
+
+With --unchecked too, a class, right or kind that is none may be given by its number.
 ",
     options: &[],
-    flags: &["--unchecked"],
+    flags: &["--unchecked", "--options"],
     run,
 };
 
@@ -75,6 +95,11 @@ fn run(args: &Args) -> Outcome {
     let text = String::from_utf8(read(from)?);
     let text = text.map_err(|_| usage(&format!("{}: not UTF-8 text", input(from))))?;
     let named = |what: String| -> Failure { no(format!("{}: {what}", input(from))) };
+    let pack = if args.flag("--options") {
+        options::pack
+    } else {
+        pack
+    };
     let bytes = pack(&text, args.flag("--unchecked")).map_err(named)?;
     write(to, &bytes)
 }

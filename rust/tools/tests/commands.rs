@@ -19,6 +19,7 @@ fn help_for_all_and_each() {
         "offset",
         "shortest",
         "dearest",
+        "options",
         "table",
         "compare",
         "bench",
@@ -256,6 +257,7 @@ fn csv_text_is_told_from_a_book() {
         &["net", "--offset", &csv, &out],
         &["offset", &csv, &out],
         &["shortest", &csv, "-o", &out],
+        &["unpack", "--options", &csv, &out],
     ] {
         let told = fails(1, words);
         assert!(told.contains("keyed.csv: looks like CSV text"), "{told}");

@@ -19,6 +19,13 @@ fn folder(name: &str) -> String {
     folder
 }
 
+/// Puts options into a folder, as text and as bytes.
+fn with_options(folder: &str) {
+    let (text, table) = (format!("{folder}/o.csv"), format!("{folder}/o.table"));
+    fs::copy(sample("options"), &text).unwrap();
+    prints(&["pack", "--options", &text, &table]);
+}
+
 /// The command in a folder.
 fn tool(folder: &str, words: &str) -> Command {
     let mut command = Command::new(env!("CARGO_BIN_EXE_market-risk"));
@@ -55,6 +62,7 @@ fn names(folder: &str) -> Vec<String> {
 fn lost_output_is_an_error() {
     let folder = folder("full");
     fs::write(format!("{folder}/bad.book"), [7]).unwrap();
+    with_options(&folder);
     for words in [
         "pack x.csv -",
         "unpack x.book -",
@@ -64,6 +72,10 @@ fn lost_output_is_an_error() {
         "shortest bad.book -o shown.book",
         "dearest --rows 3 --most 100",
         "dearest --rows 3 --most 100 -o dear.book",
+        "options o.table",
+        "options o.csv -o delta.book",
+        "pack --options o.csv -",
+        "unpack --options o.table -",
         "report x.book",
         "report x.book --currencies",
         "ladder x.book --currency 7",
@@ -102,7 +114,9 @@ fn an_output_over_an_input_is_refused() {
     symlink("x.csv", inside("soft.csv")).unwrap();
     fs::hard_link(inside("x.csv"), inside("hard.csv")).unwrap();
     fs::copy(inside("x.book"), inside("y.book")).unwrap();
-    let read = || ["x.csv", "x.book", "y.book"].map(|name| fs::read(inside(name)).unwrap());
+    with_options(&folder);
+    let names = ["x.csv", "x.book", "y.book", "o.csv", "o.table"];
+    let read = || names.map(|name| fs::read(inside(name)).unwrap());
     let before = read();
     for words in [
         "pack x.csv x.csv",
@@ -118,6 +132,10 @@ fn an_output_over_an_input_is_refused() {
         "net --offset x.book x.book",
         "offset x.book x.book",
         "shortest x.book -o x.book",
+        "options o.table -o o.table",
+        "options o.csv -o ./o.csv",
+        "pack --options o.csv o.csv",
+        "unpack --options o.table o.table",
         "table x.csv --out x.csv",
         "table soft.csv --out x.csv",
     ] {
@@ -131,6 +149,7 @@ fn an_output_over_an_input_is_refused() {
         "net - x.book <x.book",
         "offset - x.book <x.book",
         "shortest - -o x.book <x.book",
+        "options - -o o.table <o.table",
     ] {
         let told = error(2, script(&folder, &format!("\"$1\" {text}")));
         assert!(told.contains("are one file"), "{text}: {told}");
@@ -146,19 +165,30 @@ fn an_output_over_an_input_is_refused() {
 }
 
 /// Catches a write in place: a disk that fills up leaves a half book, or the old one
-/// gone. The limit is of one block, the book has 64,008 bytes.
+/// gone. The limit is of one block, the book has 64,008 bytes and that of the deltas 16,008.
 #[test]
 fn a_failed_write_leaves_no_half_file() {
     let folder = folder("half");
+    let header = "class,group,right,kind,amount,delta,gamma,vega,volatility,days";
+    let rows = "fx,1,sold put,none,5,1,1,1,1,0\n".repeat(1_000);
+    fs::write(format!("{folder}/big.options"), format!("{header}\n{rows}")).unwrap();
     let rows = "fx,1,none,0,0,0,5,0\n".repeat(4_000);
     let header = "class,group,kind,days,coupon,issue,long,short";
     fs::write(format!("{folder}/big.csv"), format!("{header}\n{rows}")).unwrap();
     let old = fs::read(format!("{folder}/x.book")).unwrap();
-    for to in ["x.book", "new.book"] {
-        let limited = format!("trap '' XFSZ; ulimit -f 1; \"$1\" pack big.csv {to}");
-        let told = error(2, script(&folder, &limited));
+    for (words, to) in [
+        ("pack big.csv", "x.book"),
+        ("pack big.csv", "new.book"),
+        ("options big.options -o", "x.book"),
+        ("options big.options -o", "new.book"),
+    ] {
+        let limited = format!("trap '' XFSZ; ulimit -f 1; \"$1\" {words} {to}");
+        let run = script(&folder, &limited);
+        assert!(run.stdout.is_empty(), "{words}");
+        let told = error(2, run);
         assert!(told.contains(&format!("{to}: File too large")), "{told}");
-        assert_eq!(names(&folder), ["big.csv", "x.book", "x.csv"]);
+        let kept = ["big.csv", "big.options", "x.book", "x.csv"];
+        assert_eq!(names(&folder), kept);
         assert_eq!(fs::read(format!("{folder}/x.book")).unwrap(), old);
     }
 }
@@ -201,6 +231,7 @@ fn names_may_be_any_bytes() {
     File::create(std::path::Path::new(&folder).join(name)).unwrap();
     let run = |command: &str| tool(&folder, command).arg(name).output().unwrap();
     assert!(error(1, run("report")).contains("caf\u{fffd}.book: refused 1"));
+    assert!(error(1, run("options")).contains("caf\u{fffd}.book: refused 16"));
     let refused = "caf\u{fffd}.book: refused 18";
     assert!(error(1, run("table")).contains(refused));
     assert!(error(1, run("report x.book --table")).contains(refused));

@@ -53,9 +53,10 @@ extern "C" {
         out_len: usize,
         result: *mut u64,
     );
-    fn market_risk_dearest(
-        rows: usize,
-        most: usize,
+    fn market_risk_dearest(rows: usize, most: u64, out: *mut u8, out_len: usize, result: *mut u64);
+    fn market_risk_options(
+        table: *const u8,
+        table_len: usize,
         out: *mut u8,
         out_len: usize,
         result: *mut u64,
@@ -192,4 +193,33 @@ fn null_books_and_a_null_output_are_shown() {
     assert_eq!(shortest(None), [0, 0, 0, 0, 0]);
     assert_eq!(shortest(Some(&EMPTY)), [0, 0, 0, 0, 1]);
     assert_eq!(shortest(Some(&[0; 9])), [12, 0, 0, 0, 0]);
+}
+
+/// Catches a call that reads a null option table, which is refused with 16, or writes to a null output, which
+/// has no room for a book without rows.
+#[test]
+fn null_options_and_a_null_output() {
+    let none = [0; 2];
+    let mut out = [0xa5; 8];
+    let room = out.as_mut_ptr();
+    let calls: [Call; 2] = [
+        (17, &|result| unsafe {
+            market_risk_options(null(), 0, null_mut(), 0, result)
+        }),
+        (17, &|result| unsafe {
+            market_risk_options(null(), 0, room, 8, result)
+        }),
+    ];
+    refused_with(16, &calls);
+    assert_eq!(out, [0xa5; 8]);
+    let short: Call = (17, &|result| unsafe {
+        market_risk_options(none.as_ptr(), none.len(), null_mut(), 0, result)
+    });
+    refused_with(12, &[short]);
+    // An option of zeros, whose class is none.
+    let bad = [&[1, 0][..], &[0; 18]].concat();
+    let outside: Call = (17, &|result| unsafe {
+        market_risk_options(bad.as_ptr(), bad.len(), null_mut(), 0, result)
+    });
+    refused_with(17, &[outside]);
 }

@@ -14,7 +14,7 @@ use stored::{all, names, samples, Print, Stored};
 fn every_print_is_stored_and_nothing_else() {
     let wanted: BTreeSet<String> = all().iter().map(Stored::name).collect();
     assert_eq!(names(&format!("{}/expected", samples()), ".txt"), wanted);
-    assert_eq!(wanted.len(), 63);
+    assert_eq!(wanted.len(), 64);
     assert_eq!(
         names(&samples(), ".table"),
         BTreeSet::from(["steps".into()])
@@ -41,7 +41,7 @@ fn every_line_of_the_stored_texts_is_calculated_again() {
 }
 
 /// The totals and charges, worked by hand in document 01 and in samples/README.md.
-const BY_HAND: [(&str, &str); 54] = [
+const BY_HAND: [(&str, &str); 55] = [
     ("empty.report", "0.000"),
     ("swap.report", "4,793,392.500"),
     ("swap.currency-7", "4,580,112.500"),
@@ -96,6 +96,7 @@ const BY_HAND: [(&str, &str); 54] = [
     ("order-shared.currency-7", "875.000"),
     ("order-together.report", "175.000"),
     ("order-together.currency-7", "175.000"),
+    ("options.options", "2,780,250.000"),
 ];
 
 /// Catches a stored charge that both calculations would have wrong.
@@ -106,7 +107,7 @@ fn the_charges_are_those_worked_by_hand() {
         let stored = all.iter().find(|stored| stored.name() == name).unwrap();
         let text = stored.text();
         let title = match stored.print {
-            Print::Report | Print::SmallBank => "total",
+            Print::Options | Print::Report | Print::SmallBank => "total",
             Print::Currencies => "all",
             Print::Currency(_) | Print::Commodity(_) => "charge",
         };

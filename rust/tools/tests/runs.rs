@@ -42,6 +42,7 @@ fn a_short_benchmark_prints_every_line() {
         ("net and offset", 4),
         ("shortest", 3),
         ("dearest", 3),
+        ("options", 3),
     ];
     assert_eq!(tables.len(), calls.len());
     for (table, (call, lines)) in tables.iter().zip(calls) {

@@ -16,5 +16,6 @@ interestAlone rows = record { interest = rows; equity = 0; exchange = 0; commodi
 unfoldable pub rowTimes : ℕ → Row → List ℕ
 rowTimes rows row = flatMap rowBytes (replicate rows row)
 
+-- an answer from its parts
 unfoldable pub answerOf : (number length total : ℕ) → Costed
 answerOf number length total = record { refusal = refused number 0; length = length; total = total }

@@ -24,5 +24,6 @@ oneIn class =
       commodity = cond (eqb class 4) 1 0;
     }
 
+-- an answer from its parts
 unfoldable pub answerOf : (number length : ℕ) → Bool → Shown
 answerOf number length accepted = record { refusal = refused number 0; length = length; accepted = accepted }

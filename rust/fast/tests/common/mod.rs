@@ -1,6 +1,8 @@
 //! Results of the fast calls beside those of the second calculation.
 #![allow(dead_code)]
 
+pub mod options;
+
 /// What a result holds before a call, which must overwrite every entry.
 const OLD: u64 = 0x5555;
 
@@ -93,6 +95,17 @@ pub fn compare_dearest(rows: usize, most: usize, room: usize) -> u64 {
     let written = second::dearest(rows as u64, most as u64, &mut second_out);
     assert_eq!(result, written.entries(), "{rows} {most} {room}");
     assert_eq!(out, second_out, "{rows} {most} {room}");
+    result[0]
+}
+
+/// Compares the options of a table, with so many bytes for their book, and gives the refusal's number.
+pub fn compare_options(table: &[u8], room: usize) -> u64 {
+    let (mut out, mut second_out) = (vec![0x55; room], vec![0x55; room]);
+    let mut result = [OLD; 17];
+    fast::options(table, &mut out, &mut result);
+    let written = second::options(table, &mut second_out);
+    assert_eq!(result, written.entries(), "{table:?}");
+    assert_eq!(out, second_out, "{table:?}");
     result[0]
 }
 

@@ -1,6 +1,8 @@
 //! Books built by hand for the tests, and what they cost under document 01's table.
 #![allow(dead_code)]
 
+pub mod options;
+
 use second::{InterestLadder, Report};
 
 /// The 16 bytes of a row.

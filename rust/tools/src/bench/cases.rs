@@ -1,6 +1,6 @@
 //! The books that are timed, and the tables that they are charged under.
 
-use super::{both, dearest, issues, legs, refusals};
+use super::{both, dearest, issues, legs, options, refusals};
 use books::generate::{row, Shape};
 use books::tables::Table;
 use books::{Book, Random, ROW_BYTES};
@@ -25,6 +25,7 @@ pub enum Whose {
     Both,
     Shortest,
     Dearest,
+    Options,
     /// All the others.
     Others,
 }
@@ -144,7 +145,8 @@ pub fn cases() -> Vec<Case> {
     let all = accepted.chain(others).chain(small_banks());
     let written = issues::cases().into_iter().chain(legs::cases());
     let written = written.chain(both::cases()).chain(refusals::cases());
-    all.chain(written).chain(dearest::cases()).collect()
+    let written = written.chain(dearest::cases()).chain(options::cases());
+    all.chain(written).collect()
 }
 
 /// The cases of small banks.

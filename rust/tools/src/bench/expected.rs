@@ -48,9 +48,17 @@ pub fn expected_of_outputs<F, const N: usize>(case: &Case, call: F) -> Rc<[Answe
 where
     F: Fn(&[u8], &mut [u8], &mut [u64; N]),
 {
+    expected_in_room(case, case.books[0].len(), call)
+}
+
+/// The same with an output of so many bytes.
+pub fn expected_in_room<F, const N: usize>(case: &Case, room: usize, call: F) -> Rc<[Answer]>
+where
+    F: Fn(&[u8], &mut [u8], &mut [u64; N]),
+{
     let answer = |book: &Vec<u8>| {
         let mut entries = [0; N];
-        let mut output = vec![OLD_BYTE; book.len()];
+        let mut output = vec![OLD_BYTE; room];
         call(book, &mut output, &mut entries);
         Answer {
             entries: entries.to_vec(),

@@ -9,6 +9,7 @@ mod fake;
 mod floors;
 mod issues;
 mod legs;
+mod options;
 mod refusals;
 mod show;
 mod sides;
@@ -29,7 +30,7 @@ pub const COMMAND: Command = Command {
     brief: "the library's speed beside plain Rust and C",
     help: "market-risk bench [--rounds N]
 
-Times eleven calls, in one run and taking turns, and prints a table for each: medians of N
+Times twelve calls, in one run and taking turns, and prints a table for each: medians of N
 rounds in nanoseconds, and ratios, proved / other. Below 1 the proved library is faster.
 
   proved   the proved library
@@ -45,7 +46,8 @@ few rows on, or that fit none: their amounts are all different, they are all on 
 their amounts are equal and their terms apart. Those of both in one call are legs of so many issues,
 which all pair off when they are netted, or fit none. Refusals are shown of books of all classes whose
 last row is bad, and of accepted ones, of which nothing is written. The dearest book takes no book: it is
-written for so many rows and a largest amount, and the floor copies it. Charges and interest ladders are under document
+written for so many rows and a largest amount, and the floor copies it. Options are of all classes in any
+order, and the floor copies their table. Charges and interest ladders are under document
 01's table, and in one line more under another. The line below netting's tells what one comparison
 takes where all rows are of different issues: the time of the call, by the comparisons. A join is
 of two books with half the rows each; ladders are of each group in turn. Before the timing every result is compared with that of the second

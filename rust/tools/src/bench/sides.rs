@@ -2,11 +2,13 @@
 
 use super::cases::{Case, Whose};
 use super::dearest::amounts;
-use super::expected::{expected, expected_of_numbers, expected_of_outputs, expected_of_pairs};
+use super::expected::{
+    expected, expected_in_room, expected_of_numbers, expected_of_outputs, expected_of_pairs,
+};
 use super::floors::{copy, copy_book, copy_book_bytes, copy_bytes, sum_bytes, sum_words};
 use super::timed::Timed;
 use super::work::{
-    of_book, of_group, of_numbers, of_output, of_pair, of_table, of_table_and_group,
+    in_room, of_book, of_group, of_numbers, of_output, of_pair, of_table, of_table_and_group,
 };
 use super::work::{Answer, Work};
 use crate::calls::{Calls, Second};
@@ -37,7 +39,7 @@ impl Call {
 }
 
 /// The calls, in the order of the tables.
-pub const CALLS: [Call; 11] = [
+pub const CALLS: [Call; 12] = [
     Call {
         name: "check",
         takes_table: false,
@@ -103,6 +105,12 @@ pub const CALLS: [Call; 11] = [
         takes_table: false,
         whose: Whose::Dearest,
         sides: dearest,
+    },
+    Call {
+        name: "options",
+        takes_table: false,
+        whose: Whose::Options,
+        sides: options,
     },
 ];
 
@@ -240,6 +248,22 @@ fn dearest(case: &Case) -> Sides<'_> {
         ),
         ("Rust", of_numbers(rows, &amounts, fast::dearest), expected),
         ("copy", of_output(books, copy_book::<5>), copied),
+    ])
+}
+
+/// The output has room for a row of each option; the floor copies the table.
+fn options(case: &Case) -> Sides<'_> {
+    let (tables, room) = (&case.books, 8 + 16 * case.rows);
+    let expected = expected_in_room(case, room, |table, out, result| {
+        Second.options(table, out, result);
+    });
+    let proved = in_room(tables, room, raw::options);
+    let plain = in_room(tables, room, fast::options);
+    let copied = expected_of_outputs(case, copy_book_bytes::<17>);
+    compared(vec![
+        ("proved", proved, expected.clone()),
+        ("Rust", plain, expected),
+        ("copy", of_output(tables, copy_book::<17>), copied),
     ])
 }
 

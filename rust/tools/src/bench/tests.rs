@@ -137,8 +137,15 @@ fn first<'a>(call: &Call, cases: &'a [Case]) -> &'a Case {
     taken.next().expect("each call has a case")
 }
 
-/// The calls that write a book, from two books, from one and from none.
-const WRITES: [&str; 5] = ["join", "net", "offset", "net and offset", "dearest"];
+/// The calls that write a book: from two books, from one, from none and from an option table.
+const WRITES: [&str; 6] = [
+    "join",
+    "net",
+    "offset",
+    "net and offset",
+    "dearest",
+    "options",
+];
 
 /// Other calls that stand in a file of their own in plain Rust.
 const OWN_FILES: [&str; 2] = ["small_bank", "shortest"];
@@ -158,6 +165,7 @@ fn each_name_times_its_own_call() {
         "net_and_offset",
         "shortest",
         "dearest",
+        "options",
     ];
     let cases = cases();
     for (call, function) in CALLS.iter().zip(functions) {
@@ -175,6 +183,9 @@ fn each_name_times_its_own_call() {
                     "market_risk::bench::floors::copy_book<5>".to_string()
                 }
                 _ if function == "offset" => "market_risk::bench::floors::copy_book<4>".to_string(),
+                _ if function == "options" => {
+                    "market_risk::bench::floors::copy_book<17>".to_string()
+                }
                 _ => "market_risk::bench::floors::copy".to_string(),
             };
             assert_eq!(side.path(), path);
@@ -229,7 +240,7 @@ fn the_small_bank_has_lines_of_its_own() {
 }
 
 /// The lines that calls on one book have which write another, or a part of it.
-const OWN_LINES: [(&str, &[(&str, usize)]); 5] = [
+const OWN_LINES: [(&str, &[(&str, usize)]); 6] = [
     (
         "net",
         &[
@@ -274,6 +285,10 @@ const OWN_LINES: [(&str, &[(&str, usize)]); 5] = [
     (
         "dearest",
         &[("no rows", 0), ("rows alike", 40), ("rows alike", 4_000)],
+    ),
+    (
+        "options",
+        &[("no rows", 0), ("options", 40), ("options", 1_000)],
     ),
 ];
 

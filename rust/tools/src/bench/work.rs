@@ -200,10 +200,22 @@ pub fn of_output<'a, F, const N: usize>(books: &'a [Vec<u8>], call: F) -> Box<dy
 where
     F: Fn(&[u8], &mut [u8], &mut [u64; N]) + 'a,
 {
+    in_room(books, books[0].len(), call)
+}
+
+/// The same with an output of so many bytes.
+pub fn in_room<'a, F, const N: usize>(
+    books: &'a [Vec<u8>],
+    room: usize,
+    call: F,
+) -> Box<dyn Work + 'a>
+where
+    F: Fn(&[u8], &mut [u8], &mut [u64; N]) + 'a,
+{
     Box::new(OfOutput {
         books,
         call,
-        output: vec![OLD_BYTE; books[0].len()],
+        output: vec![OLD_BYTE; room],
         entries: [OLD_ENTRY; N],
     })
 }

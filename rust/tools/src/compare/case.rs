@@ -1,8 +1,9 @@
-//! One random case: two books, a table, a group, the lengths of five outputs, and what is asked of the
-//! dearest book.
+//! One random case: two books, a table, a group, the lengths of five outputs, what is asked of the
+//! dearest book, and two option tables.
 
 use super::asked::Asked;
 use super::e4::{add_e4, add_e4_issue};
+use super::options::OptionTables;
 use books::damage::{damage, damage_note};
 use books::generate::{book, interest_book, interest_rows, ladder_book, Shape};
 use books::issues::{many, spoil, Issues};
@@ -34,6 +35,7 @@ pub struct Case {
     pub shortest_room: usize,
     /// What is asked of the dearest book.
     pub dearest: Asked,
+    pub options: OptionTables,
     /// The seed of the order in which the sample of demand 3 puts rows.
     pub order: u64,
 }
@@ -280,7 +282,7 @@ impl Case {
     /// very many of them, every eighth about swap legs, every sixteenth about both, and every
     /// sixteenth about refusals.
     pub fn new(seed: u64, number: u64) -> Case {
-        // The table has a stream of its own.
+        // The table and the options have streams of their own.
         let table = table(&mut Random::of_case(!seed, number));
         let mut random = Random::of_case(seed, number);
         let [a, b] = match random.below(18) {
@@ -304,6 +306,7 @@ impl Case {
             both_room: room_of_both(&mut random, &a),
             shortest_room: room_to_show(&mut random, &a),
             dearest: Asked::new(&mut random),
+            options: OptionTables::of_case(seed, number),
             table,
             a,
             b,

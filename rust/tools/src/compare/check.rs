@@ -1,4 +1,4 @@
-//! All twelve calls on one case, entry by entry and byte by byte.
+//! All thirteen calls on one case, entry by entry and byte by byte.
 
 use super::asked::Asked;
 use super::case::Case;
@@ -125,6 +125,14 @@ fn dearest(calculations: [&dyn Calls; 2], case: &Case) -> Option<String> {
     })
 }
 
+/// Writes the book of the first option table with both calculations.
+fn options(calculations: [&dyn Calls; 2], case: &Case) -> Option<String> {
+    let (table, room) = (&case.options.a, case.options.room);
+    writing("options", calculations, room, |calls, out, result| {
+        calls.options(table, out, result);
+    })
+}
+
 /// Compares document 01's table by both calculations.
 fn table(library: &dyn Calls, other: &dyn Calls) -> Option<String> {
     let (mut ours, mut theirs) = ([0x5a; 36], [0xa5; 36]);
@@ -175,5 +183,6 @@ pub fn difference(library: &dyn Calls, other: &dyn Calls, case: &Case) -> Option
         .or_else(|| net_and_offset(both, case))
         .or_else(|| shortest(both, case))
         .or_else(|| dearest(both, case))
+        .or_else(|| options(both, case))
         .or_else(|| table(library, other))
 }

@@ -20,7 +20,7 @@ pub fn cuts(bytes: &[u8]) -> Files<'_> {
 }
 
 /// Where runs of rows begin and end: the whole first, then halves, single rows last.
-fn runs(rows: usize) -> impl Iterator<Item = (usize, usize)> {
+pub fn runs(rows: usize) -> impl Iterator<Item = (usize, usize)> {
     let halves = std::iter::successors(Some(rows), |run| Some(run / 2));
     let lengths = halves.take_while(|run| *run > 0);
     lengths.flat_map(move |run| {
@@ -101,7 +101,7 @@ fn plainer_rows(book: Book) -> impl Iterator<Item = Book> {
 }
 
 /// A file that is no list of rows: shorter, or with one byte made zero.
-fn plainer_bytes(bytes: &[u8]) -> impl Iterator<Item = Vec<u8>> + '_ {
+pub fn plainer_bytes(bytes: &[u8]) -> impl Iterator<Item = Vec<u8>> + '_ {
     let length = bytes.len();
     let lengths = [
         length / 2,

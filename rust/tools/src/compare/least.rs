@@ -7,6 +7,7 @@ use super::floating::Floating;
 use super::net_joins::NetJoins;
 use super::nets::Nets;
 use super::offsets::Offsets;
+use super::options;
 use super::premises::Premises;
 use super::shortest::Shown;
 use super::small_banks::SmallBanks;
@@ -123,6 +124,7 @@ const LEAST: Tally = Tally {
         first: [4_290, 183],
         dear: [3_260, 810, 1_420],
     },
+    options: options::LEAST,
 };
 
 /// The cases that `LEAST` is about.
@@ -483,7 +485,7 @@ mod tests {
         let nothing = Tally::default();
         assert_eq!(
             nothing.lacking(20_000).len(),
-            12 + 9 + 18 + 10 + 12 + 21 + 47 + 34 + 26 + 51 + 25
+            12 + 9 + 18 + 10 + 12 + 21 + 47 + 34 + 26 + 51 + 25 + 79
         );
         assert!(LEAST.lacking(20_100).len() > 10);
         let half = nothing.lacking(10_000);
@@ -491,7 +493,7 @@ mod tests {
         // Few cases may miss the rarest, and very few may miss anything.
         assert_eq!(
             nothing.lacking(9_999).len(),
-            12 + 9 + 18 + 10 + 11 + 20 + 42 + 32 + 24 + 33 + 25
+            12 + 9 + 18 + 10 + 11 + 20 + 42 + 32 + 24 + 33 + 25 + 77
         );
         assert_eq!(nothing.lacking(41), [""; 0]);
     }

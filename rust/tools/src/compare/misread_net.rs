@@ -70,6 +70,9 @@ impl Calls for Misread {
     fn dearest(&self, rows: usize, most: usize, out: &mut [u8], result: &mut [u64; 5]) {
         Second.dearest(rows, most, out, result);
     }
+    fn options(&self, table: &[u8], out: &mut [u8], result: &mut [u64; 17]) {
+        Second.options(table, out, result);
+    }
     fn table(&self, out: &mut [u8; 36]) {
         Second.table(out);
     }

@@ -53,6 +53,7 @@ mod offset_laws;
 mod offset_readings;
 mod offset_sorts;
 mod offsets;
+mod options;
 mod premises;
 mod run;
 mod shortest;
@@ -102,7 +103,7 @@ pub const COMMAND: Command = Command {
     help: "market-risk compare [--seed S] [--count N] [--first K]
 
 Makes N pairs of random and damaged books from seed S and holds the proved library to
-the second calculation: all twelve calls, every entry of every result and every byte of
+the second calculation: all thirteen calls, every entry of every result and every byte of
 every output. Each pair has one table: document 01's, another that is accepted, or one that
 is refused. Demand 3 is sampled too: a reordered, mirrored, or reordered and mirrored book
 has the same report; a joined book takes as many rows as its two parts and, with at most
@@ -124,12 +125,17 @@ under that of the pair; it is no longer than the book, files that are shorter ar
 numbers, and it is its own shortest file. The dearest book of a number of rows and a largest amount,
 which each pair asks for, is accepted, has so many rows of at most so much, and costs the total that is
 told of it; no accepted book of as many rows of at most as much costs more, neither the first of the
-pair nor one that is made to be dear. In every fourth pair rows share issue numbers, every eighth
-is of swap legs, every sixteenth of legs that share issue numbers, and every sixteenth of files that
-are refused.
+pair nor one that is made to be dear. Each pair has two option tables too, the first often damaged. A
+table is refused just when its length, its count or a field says so; the book of one that is accepted is
+accepted and costs what is told of it, its rows are those of the options in their order, and each amount
+is the exact one or less than a unit more. Gamma and vega of a class are those of its groups together;
+they stay when call and put are exchanged in some options, and vega and the charges when bought and sold
+are in all. Two such books joined cost at most the two, and so do gamma and vega of two tables put
+together. In every fourth pair rows share issue numbers, every eighth is of swap legs, every sixteenth of
+legs that share issue numbers, and every sixteenth of files that are refused.
 
-On a difference it prints the smallest books that it can find, in hex and as CSV, with the
-table next to document 01's, and stops with exit status 1. It also fails when the pairs
+On a difference it prints the smallest books and option tables that it can find, in hex and row by
+row, with the table next to document 01's, and stops with exit status 1. It also fails when the pairs
 have shown too little: every refusal, accepted books with rows, books refused after their
 first row, interest ladders with all three zones used, commodity ladders with amounts
 carried, joins made, joins under the zone premise, currencies of both books under their own
@@ -150,7 +156,11 @@ for the netted book, refused with each number, and with 13 and 14 that the other
 refusals that are shown, each number of a row in each class, at each place and before other bad rows,
 contents of each sort, and accepted books, into outputs of each length, and dearest books, of rows and
 amounts at their limits and past them, refused for each, into outputs of each length, and books held to
-the most that they can cost, some as dear, must come up in proportion to N.
+the most that they can cost, some as dear, and option tables, of each size up to 1,000, refused with 16
+for each reason, with 17 one past each end of each field and at each place, and with 12, into outputs of
+each length, with options of each class and right, with a delta of 0 and whole, with amounts rounded and
+not, with gammas charged and not charged, of both sides and with a half, with vegas on each side and on
+both, in groups and classes on two sides, joined, and put together, must come up in proportion to N.
 
   --seed S    the seed, 1 if not given
   --count N   how many pairs, 20000 if not given

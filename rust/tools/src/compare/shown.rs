@@ -1,4 +1,4 @@
-//! A case as it is printed: its numbers, its table and its books.
+//! A case as it is printed: its numbers, its table, its books and its option tables.
 
 use super::asked::Asked;
 use super::case::Case;
@@ -14,7 +14,7 @@ fn show(name: &str, bytes: &[u8]) -> String {
 }
 
 /// Some bytes in hex.
-fn hex(bytes: &[u8]) -> String {
+pub fn hex(bytes: &[u8]) -> String {
     bytes.iter().map(|byte| format!("{byte:02x}")).collect()
 }
 
@@ -43,6 +43,7 @@ impl fmt::Display for Case {
         let (group, room) = (self.group, self.room);
         let (net, offset, both) = (self.net_room, self.offset_room, self.both_room);
         let (shortest, asked) = (self.shortest_room, &self.dearest);
+        let options = &self.options;
         let (a, b, table) = (
             show("A", &self.a),
             show("B", &self.b),
@@ -51,7 +52,7 @@ impl fmt::Display for Case {
         write!(
             out,
             "group {group}, outputs of {room} bytes to join, {net} to net, {offset} to offset, {both} \
-             for both and {shortest} to show the refusal\n{table}{a}{b}{asked}"
+             for both and {shortest} to show the refusal\n{table}{a}{b}{options}{asked}"
         )
     }
 }
@@ -82,6 +83,25 @@ mod tests {
         let text = case.to_string();
         let last = "\nthe dearest book of 3 rows of at most 100, into 56 bytes\n";
         assert!(text.ends_with(last), "{text}");
+    }
+
+    /// Catches option tables that are not printed, or with their fields exchanged.
+    #[test]
+    fn option_tables_are_shown_in_hex_and_numbers() {
+        let mut case = Case::new(1, 1);
+        case.options.a = (1..=18).collect();
+        case.options.a.splice(..0, [1, 0]);
+        case.options.b = vec![7];
+        case.options.room = 23;
+        let text = case.to_string();
+        let hex = "0100010203040506070809";
+        assert!(text.contains(&format!("\noption table A, 20 bytes: {hex}")));
+        let fields = "class,group,right,kind,amount,delta,gamma,vega,volatility,days";
+        let numbers = "1,2,3,4,134678021,2569,3083,3597,4111,4625";
+        assert!(text.contains(&format!("\n{fields}\n{numbers}\n")), "{text}");
+        let second = "option table B, 1 bytes: 07\n(the length does not agree with the count)\n";
+        let room = "options into 23 bytes\nthe dearest book ";
+        assert!(text.contains(&format!("\n{second}{room}")), "{text}");
     }
 
     /// Catches a table that is not printed, or printed with its fields exchanged.

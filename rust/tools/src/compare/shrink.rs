@@ -84,7 +84,11 @@ fn smaller(case: &Case) -> impl Iterator<Item = Case> + '_ {
         dearest,
         ..case.clone()
     });
-    let plainer = plainer(case).chain(of_asked);
+    let of_options = case.options.smaller().map(|options| Case {
+        options,
+        ..case.clone()
+    });
+    let plainer = plainer(case).chain(of_asked).chain(of_options);
     plainer.chain(of_table).chain(of_b).chain(of_a)
 }
 
@@ -114,7 +118,9 @@ fn shrink_within(tries: usize, case: &Case, fails: &mut dyn FnMut(&Case) -> bool
 #[cfg(test)]
 mod tests {
     use super::super::asked::Asked;
+    use super::super::options::OptionTables;
     use super::*;
+    use books::options::{decode, encode, OptionRow};
     use books::{Book, Row};
 
     /// A case whose first book has so many interest rows and commodity rows.
@@ -139,6 +145,7 @@ mod tests {
                 most: 77,
                 room: 500,
             },
+            options: OptionTables::of_case(1, 0),
             order: 1,
         }
     }
@@ -161,6 +168,7 @@ mod tests {
         assert_eq!((left, outputs, more), ((0, 0, 0), [0; 2], [0; 2]));
         let Asked { rows, most, room } = smallest.dearest;
         assert_eq!([rows, most, room], [0; 3]);
+        assert_eq!(smallest.options, OptionTables::default());
         assert_eq!(smallest.table, second::table());
     }
 
@@ -177,6 +185,42 @@ mod tests {
         let Asked { rows, most, room } = smallest.dearest;
         assert_eq!([rows, most, room], [3, 10, 55]);
         assert!(smallest.a.is_empty());
+    }
+
+    /// Catches options that are not cut, or an output that is cut without them.
+    #[test]
+    fn option_tables_are_cut_too() {
+        let short = |case: &Case| {
+            let OptionTables { a, b, room } = &case.options;
+            let options = decode(a).unwrap_or_default();
+            let large = options.iter().filter(|option| option.vega > 5);
+            let length = second::options_book(a).map_or(0, |book| book.len());
+            large.count() >= 2 && length > 8 && room + 1 == length && b.len() > 2
+        };
+        let option = OptionRow {
+            class: 4,
+            group: 7,
+            right: 3,
+            amount: 900,
+            delta: 77,
+            vega: 99,
+            ..OptionRow::default()
+        };
+        let mut whole = case(3, 3);
+        whole.options = OptionTables {
+            a: encode(&[option; 6]).unwrap(),
+            b: encode(&[option; 9]).unwrap(),
+            room: 7 + 16 * 6,
+        };
+        let smallest = shrink(&whole, &mut |case| short(case)).options;
+        let options = decode(&smallest.a).unwrap();
+        assert_eq!(
+            options.iter().map(|one| one.vega).collect::<Vec<_>>(),
+            [6, 6]
+        );
+        assert_eq!(options.iter().map(|one| one.delta).sum::<u16>(), 1);
+        assert!(options.iter().all(|one| (one.class, one.amount) == (2, 1)));
+        assert_eq!([smallest.b.len(), smallest.room], [20, 23]);
     }
 
     /// Catches a group that is kept because neither the call's nor the rows' can be changed

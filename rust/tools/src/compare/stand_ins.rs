@@ -2,6 +2,7 @@
 
 use super::asked::Asked;
 use super::case::Case;
+use super::options::OptionTables;
 use super::premises::{at_most_two, zones};
 use super::run::{Run, DEFAULT_COUNT};
 use crate::calls::{Calls, Proved, Second};
@@ -9,7 +10,7 @@ use crate::cli::{Args, Failure};
 use books::legs::LEG;
 use books::Book;
 
-/// The twelve calls.
+/// The thirteen calls.
 #[derive(Clone, Copy, Debug, PartialEq)]
 enum Call {
     Check,
@@ -23,10 +24,11 @@ enum Call {
     NetAndOffset,
     Shortest,
     Dearest,
+    Options,
     Table,
 }
 
-const CALLS: [Call; 12] = [
+const CALLS: [Call; 13] = [
     Call::Check,
     Call::Charge,
     Call::InterestLadder,
@@ -38,6 +40,7 @@ const CALLS: [Call; 12] = [
     Call::NetAndOffset,
     Call::Shortest,
     Call::Dearest,
+    Call::Options,
     Call::Table,
 ];
 
@@ -124,6 +127,11 @@ impl Calls for StandIn<'_> {
             Second.dearest(rows, most, out, result);
         });
     }
+    fn options(&self, table: &[u8], out: &mut [u8], result: &mut [u64; 17]) {
+        self.write(Call::Options, out, result, |out, result| {
+            Second.options(table, out, result);
+        });
+    }
     fn table(&self, out: &mut [u8; 36]) {
         match (self.without.contains(&Call::Table), self.zeros) {
             (false, _) => Second.table(out),
@@ -207,6 +215,7 @@ fn a_run_that_has_seen_too_little_fails() {
             most: 1,
             room: 8,
         },
+        options: OptionTables::default(),
         order: 0,
     };
     let message = failure(&empty);
@@ -231,6 +240,9 @@ fn a_run_that_has_seen_too_little_fails() {
     assert!(message.contains("\noutputs to show of 7: 0 where"));
     assert!(message.contains("\ndearest books refused 22 without room: 0 where"));
     assert!(message.contains("\ndear books held to the most, which cost as dear: 0 where"));
+    assert!(message.contains("\noption tables refused 17 for group 32: 0 where"));
+    assert!(message.contains("\ngammas charged in commodities: 0 where"));
+    assert!(message.contains("\ntwo option tables joined on two sides of an underlying: 0 where"));
     assert!(message.contains("\ntables refused 18: 0 where"));
     assert!(message.contains("\ntables refused for 1-3 above 100 alone: 0 where"));
     assert!(!message.contains("books accepted: "), "{message}");
@@ -338,6 +350,14 @@ fn without_dearest(seed: u64, number: u64) -> Case {
     }
 }
 
+/// A case of a seed without option tables.
+fn without_options(seed: u64, number: u64) -> Case {
+    Case {
+        options: OptionTables::default(),
+        ..Case::new(seed, number)
+    }
+}
+
 /// A case of a seed, but none whose first book is refused for a row.
 fn without_bad_rows(seed: u64, number: u64) -> Case {
     let mut cases = (0..).map(|turn| Case::new(seed + turn, number + 16 * turn));
@@ -346,7 +366,7 @@ fn without_bad_rows(seed: u64, number: u64) -> Case {
 }
 
 /// What a run of 4,000 cases of a kind lacks.
-fn lacking(cases: fn(u64, u64) -> Case) -> Vec<String> {
+pub fn lacking(cases: fn(u64, u64) -> Case) -> Vec<String> {
     let none = StandIn {
         without: &[],
         zeros: true,
@@ -468,4 +488,16 @@ fn a_run_without_dearest_books_fails() {
     assert_eq!(lacking.iter().filter(about).count(), lacking.len());
     // 22 for both reasons is too rare to be asked for in so few cases.
     assert_eq!(lacking.len(), 5 + 5 + 4 + 2 + 3, "{lacking:?}");
+}
+
+/// Catches a run that has seen no options: all that it lacks is about them.
+#[test]
+fn a_run_without_options_fails() {
+    let lacking = lacking(without_options);
+    assert!(lacking.iter().all(|line| line.contains(": 0 where")));
+    let words = ["option", "gammas ", "vegas "];
+    let about = |line: &&String| words.iter().any(|word| line.contains(word));
+    assert_eq!(lacking.iter().filter(about).count(), lacking.len());
+    // Two sorts of 16 are seen, and the rarest are not asked for in so few cases.
+    assert_eq!(lacking.len(), 79 - 2 - 10, "{lacking:?}");
 }

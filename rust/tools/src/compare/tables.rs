@@ -136,6 +136,7 @@ impl fmt::Display for Tables {
 #[cfg(test)]
 mod tests {
     use super::super::asked::Asked;
+    use super::super::options::OptionTables;
     use super::*;
     use books::tables::random::broken;
     use books::{Random, Row};
@@ -165,6 +166,7 @@ mod tests {
                 most: 1,
                 room: 0,
             },
+            options: OptionTables::default(),
             offset_room: 0,
             order: 0,
         });

@@ -8,6 +8,7 @@ use super::floating::Floating;
 use super::net_joins::NetJoins;
 use super::nets::Nets;
 use super::offsets::Offsets;
+use super::options::Seen;
 use super::premises::Premises;
 use super::shortest::Shown;
 use super::small_banks::SmallBanks;
@@ -45,6 +46,7 @@ pub struct Tally {
     pub both: Both,
     pub shown: Shown,
     pub dearest: Dearest,
+    pub options: Seen,
 }
 
 impl Tally {
@@ -65,6 +67,7 @@ impl Tally {
         self.both.count(case);
         self.shown.count(case);
         self.dearest.count(case);
+        self.options.count(case);
         self.ladder_refused += u64::from(case.group > 31);
         self.tables.count(case);
         let charged = second::read_table(&case.table).is_ok();
@@ -125,6 +128,7 @@ impl Tally {
         counts.extend(self.both.named());
         counts.extend(self.shown.named());
         counts.extend(self.dearest.named());
+        counts.extend(self.options.named());
         counts.extend(numbered("books refused", &self.refused));
         counts.extend(numbered("joins refused", &self.joins));
         counts
@@ -164,6 +168,7 @@ impl fmt::Display for Tally {
         writeln!(out, "{}", self.both)?;
         writeln!(out, "{}", self.shown)?;
         writeln!(out, "{}", self.dearest)?;
+        writeln!(out, "{}", self.options)?;
         writeln!(
             out,
             "joins refused {not_joined}, for the second book {}",
@@ -175,6 +180,7 @@ impl fmt::Display for Tally {
 #[cfg(test)]
 mod tests {
     use super::super::asked::Asked;
+    use super::super::options::OptionTables;
     use super::*;
     use books::{Book, Row};
 
@@ -207,6 +213,7 @@ mod tests {
                 most: 7,
                 room: 1_000,
             },
+            options: OptionTables::default(),
             order: 0,
         });
         tally

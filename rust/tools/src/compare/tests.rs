@@ -3,6 +3,7 @@
 use super::asked::Asked;
 use super::case::Case;
 use super::faulty::{Fault, Faulty};
+use super::options::OptionTables;
 use super::run::Run;
 use super::{check, laws};
 use crate::calls::Second;
@@ -237,6 +238,7 @@ fn case(a: &[Row], b: &[Row]) -> Case {
             most: 7,
             room: 1_000,
         },
+        options: OptionTables::default(),
         order: 0,
     }
 }

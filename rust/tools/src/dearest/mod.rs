@@ -7,10 +7,10 @@ use crate::cli::{no, print, usage, Args, Command, Failure, Outcome};
 use crate::files::{is_output, write};
 use crate::lines::{charge, show, Line, Sign::Equal};
 use crate::text::{mils, table, whole};
+use crate::written::length_line;
 use books::{MOST_ROWS, ROW_BYTES};
 use doubt::doubt;
 use rates::{Rate, RATES};
-use std::path::Path;
 
 pub const COMMAND: Command = Command {
     name: "dearest",
@@ -116,11 +116,6 @@ fn total(asked: &Asked, total: u64) -> Line {
     Line::new("total", charge(total), Equal, (asked.at(rate), right))
 }
 
-/// The line of the file that is written.
-fn line(to: &Path, file: &[u8]) -> String {
-    format!("{}: {} bytes\n", to.display(), whole(file.len() as u64))
-}
-
 fn run(args: &Args) -> Outcome {
     let [] = args.files()?;
     let (asked, to) = (Asked::new(args)?, args.path("-o"));
@@ -132,7 +127,7 @@ fn run(args: &Args) -> Outcome {
     let mut text = format!("{}\n{}", show(&[total(&asked, sum)]), rates(&asked));
     if let Some(to) = to {
         write(to, &file)?;
-        text += &line(to, &file);
+        text += &length_line(to, &file);
     }
     print(&text)
 }

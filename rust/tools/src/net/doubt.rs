@@ -48,7 +48,9 @@ pub fn doubt(book: &[u8], library: &[u8]) -> Option<String> {
     match netted_book(book) {
         Ok(expected) => {
             let mut classes = (0..).zip(own.classes.iter().zip(&expected.classes));
-            classes.find_map(|(class, (own, expected))| unlike("netted", class, own, expected))
+            classes.find_map(|(class, (own, expected))| {
+                unlike(["netted", "book"], class, own, expected)
+            })
         }
         Err(why) => Some(why),
     }

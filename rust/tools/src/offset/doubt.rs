@@ -58,7 +58,9 @@ pub fn pairs(book: &[u8], library: &[u8]) -> Result<usize, String> {
     let [_, equity, exchange, commodity] = &whole.classes;
     let expected = [&left, equity, exchange, commodity];
     let mut classes = (0..expected.len()).zip(expected);
-    match classes.find_map(|(class, rows)| unlike("offset", class, &own.classes[class], rows)) {
+    match classes
+        .find_map(|(class, rows)| unlike(["offset", "book"], class, &own.classes[class], rows))
+    {
         Some(told) => Err(format!("{told}; {} by the book", counted(pairs))),
         None => Ok(pairs),
     }

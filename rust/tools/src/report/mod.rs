@@ -10,9 +10,9 @@ use crate::files::{input, print, read_book};
 use crate::table::Loaded;
 use crate::text::{mils, table};
 use books::Book;
-use doubt::doubt;
 use market_risk::Report;
 
+pub use doubt::doubt;
 pub use explain::{explain, fields};
 
 pub const COMMAND: Command = Command {
@@ -38,9 +38,9 @@ not add up to the two interest charges, or if a currency without interest rows h
     run,
 };
 
-/// The report as a table.
-fn figures(report: &Report) -> String {
-    let lines = [
+/// The six charges and the total, with their names.
+pub fn named(report: &Report) -> [(&'static str, u64); 7] {
+    [
         ("interest specific", report.interest_specific),
         ("interest general", report.interest_general),
         ("equity specific", report.equity_specific),
@@ -48,9 +48,13 @@ fn figures(report: &Report) -> String {
         ("foreign exchange", report.exchange),
         ("commodity", report.commodity),
         ("total", report.total),
-    ];
-    let cells = |(name, value): &(&str, u64)| vec![name.to_string(), mils(*value)];
-    table(&lines.iter().map(cells).collect::<Vec<_>>())
+    ]
+}
+
+/// The report as a table.
+pub fn figures(report: &Report) -> String {
+    let cells = |(name, value): (&str, u64)| vec![name.to_string(), mils(value)];
+    table(&named(report).map(cells))
 }
 
 /// What is printed of a report, or why it cannot be that of the book.

@@ -78,6 +78,10 @@ fn answer(by: &dyn Calls, case: &Case) -> (&'static str, Vec<u64>) {
                 by.dearest(*rows as usize, *most as usize, out, result);
             }),
         ),
+        Call::Options { room } => (
+            "options",
+            writing(*room, |out, result| by.options(book, out, result)),
+        ),
         Call::SmallBank => {
             by.small_bank(book, &mut small_bank);
             ("small-bank", small_bank.to_vec())
@@ -108,7 +112,7 @@ fn lines_by(by: &dyn Calls, cases: &[Case]) -> String {
 #[cfg(test)]
 mod tests {
     use super::super::build::{call, charge_by, join, ladder_by, net, net_and_offset, offset};
-    use super::super::build::{dearest, row, shortest, small_bank};
+    use super::super::build::{dearest, options, row, shortest, small_bank};
     use super::*;
     use crate::calls::Proved;
 
@@ -266,6 +270,35 @@ mod tests {
              dearest 0 0 0 8 0 {none}\n\
              dearest 22 0 0 0 0 {kept}\n\
              dearest 22 0 0 0 0 0\n"
+        );
+        assert_eq!(lines(&cases), expected);
+    }
+
+    /// Two options: a sold put on a diversified share, 30 at a delta of 1, gamma 1, vega 1 and volatility 1, and a
+    /// sold call on gold without delta, 2 of gamma 2, vega 2; and one byte past the book of one row. The same
+    /// without room, with a class that is none, and without its last byte.
+    #[test]
+    fn lines_of_options_have_every_figure() {
+        let share = [2, 1, 3, 2, 30, 0, 0, 0, 0x10, 0x27, 1, 0, 1, 0, 1, 0, 0, 0];
+        let gold = [3, 0, 2, 0, 2, 0, 0, 0, 0, 0, 2, 0, 2, 0, 1, 0, 0, 0];
+        let table = [&[2, 0][..], &share, &gold].concat();
+        let mut bad = table.clone();
+        bad[20] = 5;
+        let cases = [
+            options(&table, 25),
+            options(&table, 23),
+            options(&bad, 25),
+            options(&table[..37], 0),
+        ];
+        let row = [1, 2, 0, 0, 0, 0, 0, 0, 30, 0, 0, 0, 0, 0, 0, 0];
+        let book = [&[0, 0, 1, 0, 0, 0, 0, 0][..], &row, &[0xa5]].concat();
+        let [book, short, kept] = [&book[..], &[0xa5; 23], &[0xa5; 25]].map(checksum);
+        let zeros = " 0".repeat(14);
+        let expected = format!(
+            "options 0 0 0 24 960 128 0 2500 5000 0 0 0 1200000 2400000 0 0 3600000 {book}\n\
+             options 12 0 0{zeros} {short}\n\
+             options 17 1 0{zeros} {kept}\n\
+             options 16 0 0{zeros} 0\n"
         );
         assert_eq!(lines(&cases), expected);
     }

@@ -20,9 +20,10 @@ pub enum Call {
     NetAndOffset { room: u32 },
     Shortest { room: u32 },
     Dearest { room: u32, rows: u32, most: u32 },
+    Options { room: u32 },
 }
 
-/// One stored call.
+/// One stored call, of a book or, where it is of options, of an option table.
 #[derive(Clone, Debug, PartialEq, Eq)]
 pub struct Case {
     pub call: Call,
@@ -87,6 +88,12 @@ pub fn shortest(book: &[u8], room: usize) -> Case {
 pub fn dearest(rows: u32, most: u32, room: usize) -> Case {
     let room = length(room);
     call(Call::Dearest { room, rows, most }, &[])
+}
+
+/// The charges of an option table, with so much room. The table stands in the place of a book.
+pub fn options(table: &[u8], room: usize) -> Case {
+    let room = length(room);
+    call(Call::Options { room }, table)
 }
 
 /// A call that writes a book of so many bytes, into an output of every length that matters.

@@ -20,9 +20,16 @@ mod nets;
 mod offset_faults;
 mod offset_limits;
 mod offsets;
+mod options;
+mod options_build;
+mod options_faults;
+mod options_random;
+mod options_sums;
 #[cfg(test)]
 mod page;
 mod random;
+#[cfg(test)]
+mod reader;
 mod shortest;
 mod shortest_rows;
 mod small_banks;
@@ -80,6 +87,10 @@ fn cases(seed: u64) -> Vec<Case> {
         shortest::cases(seed),
         shortest_rows::cases(),
         dearest::cases(seed),
+        options::cases(),
+        options_sums::cases(),
+        options_faults::cases(),
+        options_random::cases(seed),
     ]
     .concat()
 }
@@ -136,7 +147,7 @@ mod tests {
         }));
         assert!(books.len() >= 300, "{} books", books.len());
         let [(_, stdin), (_, stdout)] = files(1);
-        assert!(stdin.len() < 530_000, "{} bytes", stdin.len());
+        assert!(stdin.len() < 615_000, "{} bytes", stdin.len());
         assert!(stdout.len() < 300_000, "{} bytes", stdout.len());
     }
 
@@ -185,6 +196,7 @@ mod tests {
         for number in 0..=22 {
             assert_eq!(seen("shortest", number), [0, 12].contains(&number));
             assert_eq!(seen("dearest", number), [0, 12, 22].contains(&number));
+            assert_eq!(seen("options", number), [0, 12, 16, 17].contains(&number));
         }
     }
 

@@ -71,6 +71,12 @@ fn of_dearest(room: u32, rows: u32, most: u32) -> Vec<u8> {
     [&[14][..], &numbers.concat()].concat()
 }
 
+/// Options: tag, length of the output, length, option table. It has no rows of 16 bytes and so is never in runs.
+fn of_options(table: &[u8], room: u32) -> Vec<u8> {
+    let numbers = [room.to_le_bytes(), length(table)];
+    [&[15][..], &numbers.concat(), table].concat()
+}
+
 /// One call.
 fn record(case: &Case) -> Vec<u8> {
     let book = &case.book;
@@ -89,6 +95,7 @@ fn record(case: &Case) -> Vec<u8> {
         Call::NetAndOffset { room } => of_writing(12, book, *room),
         Call::Shortest { room } => of_writing(13, book, *room),
         Call::Dearest { room, rows, most } => of_dearest(*room, *rows, *most),
+        Call::Options { room } => of_options(book, *room),
     }
 }
 
@@ -102,9 +109,9 @@ pub fn encode(cases: &[Case]) -> Vec<u8> {
 #[cfg(test)]
 mod tests {
     use super::super::build::{call, charge_by, ladder_by, net, net_and_offset, offset};
-    use super::super::build::{dearest, shortest, small_bank};
+    use super::super::build::{dearest, options, shortest, small_bank};
     use super::super::cases;
-    use super::super::page::read;
+    use super::super::reader::read;
     use super::*;
 
     #[test]
@@ -126,7 +133,8 @@ mod tests {
                 | Call::Offset { room }
                 | Call::NetAndOffset { room }
                 | Call::Shortest { room }
-                | Call::Dearest { room, .. } => {
+                | Call::Dearest { room, .. }
+                | Call::Options { room } => {
                     assert!(*room <= 65_536);
                 }
                 Call::ChargeBy { table } | Call::InterestLadderBy { table, .. } => {
@@ -186,6 +194,15 @@ mod tests {
         let record = [14, 4, 3, 0, 0, 5, 6, 7, 8, 9, 10, 11, 12];
         let case = dearest(0x0807_0605, 0x0c0b_0a09, 772);
         assert_eq!(super::record(&case), record);
+    }
+
+    /// Catches an option table that is cut into rows of a book: it is stored as it is, whatever it repeats.
+    #[test]
+    fn an_option_table_is_never_in_runs() {
+        let table = [&[2, 0][..], &[5; 38]].concat();
+        let head = [15, 4, 3, 0, 0, 40, 0, 0, 0];
+        let record = [&head[..], &table].concat();
+        assert_eq!(super::record(&options(&table, 772)), record);
     }
 
     #[test]

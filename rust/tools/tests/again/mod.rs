@@ -1,8 +1,9 @@
-//! The lines of reports, ladders and small banks calculated again, from document 01's bands, a table's
+//! The lines of reports, ladders, small banks and options calculated again, from document 01's bands, a table's
 //! weights and per cents, and the second calculation. Nothing here is the command's own code.
 
 mod commodity;
 mod interest;
+mod options;
 mod small_bank;
 
 use books::{Book, Row};
@@ -10,6 +11,7 @@ use std::collections::BTreeSet;
 
 pub use commodity::commodity;
 pub use interest::interest;
+pub use options::options;
 pub use small_bank::small_bank;
 
 /// A number of which so many digits are decimal places, with thousands separators.

@@ -4,16 +4,16 @@
 void proved_table(uint8_t *out);
 void proved_charge(const uint8_t *book, size_t len, const uint8_t *table, size_t table_len,
                    uint64_t *out);
-void proved_dearest(size_t rows, size_t most, uint8_t *out, size_t out_len, uint64_t *result);
+void proved_dearest(size_t rows, uint64_t most, uint8_t *out, size_t out_len, uint64_t *result);
 
 enum { MOST_BYTES = 65536, MOST_ROWS = 4000 };
 
 /* Changes each row of a book by the reading: its kind, its days (7,200 is 0x1c20), its coupon (300 is
  * 0x012c), its currency, its side, or its amount. */
-static void miswrite(uint8_t *book, size_t rows, size_t most) {
+static void miswrite(uint8_t *book, size_t rows, uint64_t most) {
     for (size_t i = 0; i < rows; i++) {
         uint8_t *row = book + 8 + 16 * i;
-        size_t amount = most;
+        uint64_t amount = most;
         if (named("government")) row[1] = 1;
         if (named("qualifying")) row[1] = 2;
         if (named("nearer_band")) row[2] = 0x20, row[3] = 0x1c;
@@ -44,7 +44,7 @@ static uint64_t total(const uint8_t *book, size_t len, uint64_t units) {
 }
 
 /* Whether the numbers are refused, by the reading. */
-static int refused(size_t rows, size_t most, size_t out_len) {
+static int refused(size_t rows, uint64_t most, size_t out_len) {
     size_t least = named("zero_taken") ? 0 : 1;
     size_t largest = named("largest_refused") ? 999999999 : 1000000000;
     if (most < least || most > largest) return 1;
@@ -55,7 +55,7 @@ static int refused(size_t rows, size_t most, size_t out_len) {
 
 /* Writes the dearest book by the reading, of as many rows as the proved call takes, and gives its
  * length. */
-static size_t dearest(uint8_t *book, size_t rows, size_t most) {
+static size_t dearest(uint8_t *book, size_t rows, uint64_t most) {
     uint64_t result[5];
     size_t taken = rows > MOST_ROWS ? MOST_ROWS : rows;
     if (named("one_row_fewer") && taken > 0) taken--;
@@ -64,7 +64,7 @@ static size_t dearest(uint8_t *book, size_t rows, size_t most) {
     return 8 + 16 * (rows > MOST_ROWS ? rows : taken);
 }
 
-void market_risk_dearest(size_t rows, size_t most, uint8_t *out, size_t out_len,
+void market_risk_dearest(size_t rows, uint64_t most, uint8_t *out, size_t out_len,
                          uint64_t result[5]) {
     static uint8_t book[MOST_BYTES];
     size_t wanted = 8 + 16 * (rows > MOST_ROWS ? MOST_ROWS + 1 : rows);

@@ -8,8 +8,8 @@ use std::process::{Command, Output};
 use std::sync::OnceLock;
 use std::{env, fs};
 
-/// The twelve calls, as the C interface names them.
-pub const CALLS: [&str; 12] = [
+/// The thirteen calls, as the C interface names them.
+pub const CALLS: [&str; 13] = [
     "check",
     "charge",
     "interest_ladder",
@@ -21,6 +21,7 @@ pub const CALLS: [&str; 12] = [
     "net_and_offset",
     "shortest",
     "dearest",
+    "options",
     "table",
 ];
 
@@ -38,7 +39,7 @@ fn build(command: &mut Command) {
 }
 
 /// The files of the stand-in.
-const SOURCES: [&str; 7] = [
+const SOURCES: [&str; 8] = [
     "stand_in",
     "small_bank",
     "net",
@@ -46,6 +47,7 @@ const SOURCES: [&str; 7] = [
     "net_and_offset",
     "shortest",
     "dearest",
+    "options",
 ];
 
 /// Compiles a file of the stand-in into a folder and gives the object.
@@ -131,4 +133,20 @@ pub fn told_within(count: &str, call: &str, fault: &str) -> String {
     let told = lines.find(|line| line.starts_with(call));
     told.unwrap_or_else(|| panic!("{fault}: {error}"))
         .to_string()
+}
+
+/// What `options` tells of a table with a fault: nothing may be printed, and an old file of this name must
+/// stay.
+pub fn told_of_options(name: &str, fault: &str, table: &str) -> String {
+    let out = temporary(&format!("stand-in-{name}.deltas"));
+    fs::write(&out, "old").unwrap();
+    let words = ["options", table, "-o", &out];
+    let output = run(fault, &words);
+    assert!(output.stdout.is_empty(), "{fault}");
+    assert_eq!(output.status.code(), Some(1), "{fault}");
+    assert_eq!(fs::read(&out).unwrap(), b"old", "{fault}");
+    let error = String::from_utf8(output.stderr).unwrap();
+    assert_eq!(fails(fault, &words[..2]), error);
+    let told = error.strip_prefix(&format!("market-risk: {table}: "));
+    told.unwrap().trim_end().to_string()
 }

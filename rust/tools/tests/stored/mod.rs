@@ -2,7 +2,8 @@
 
 use crate::again;
 use crate::common::{packed, prints_in, sample};
-use books::{csv, tables, Book};
+use books::options::OptionRow;
+use books::{csv, options, tables, Book};
 use std::collections::BTreeSet;
 use std::fs;
 
@@ -26,10 +27,18 @@ fn rows(name: &str) -> Book {
     csv::parse(&text).unwrap().book
 }
 
+/// The options of a sample, where it is an option table.
+fn options_of(name: &str) -> Option<Vec<OptionRow>> {
+    let text = fs::read_to_string(sample(name)).unwrap();
+    let is_table = text.starts_with(options::csv::HEADER);
+    is_table.then(|| options::csv::parse(&text).unwrap().options)
+}
+
 /// What is printed of a sample: its report, this with the charges of the currencies, the
-/// charges of a small bank, or the ladder of one group.
+/// charges of a small bank, or the ladder of one group; of an option table what options cost.
 #[derive(Clone, Copy)]
 pub enum Print {
+    Options,
     Report,
     Currencies,
     SmallBank,
@@ -73,6 +82,7 @@ impl Stored {
     pub fn name(&self) -> String {
         let table = if self.table.is_some() { ".table" } else { "" };
         let print = match self.print {
+            Print::Options => "options".into(),
             Print::Report => "report".into(),
             Print::Currencies => "currencies".into(),
             Print::SmallBank => "small-bank".into(),
@@ -89,17 +99,21 @@ impl Stored {
 
     /// What the command prints now.
     pub fn printed(&self) -> String {
-        let book = packed(&self.sample, &self.name());
+        let file = match self.print {
+            Print::Options => format!("{}.csv", self.sample),
+            _ => packed(&self.sample, &self.name()),
+        };
         let group = match self.print {
             Print::Currency(group) | Print::Commodity(group) => group.to_string(),
-            Print::Report | Print::Currencies | Print::SmallBank => String::new(),
+            _ => String::new(),
         };
         let mut words = match self.print {
-            Print::Report => vec!["report", &book],
-            Print::Currencies => vec!["report", &book, "--currencies"],
-            Print::SmallBank => vec!["small-bank", &book],
-            Print::Currency(_) => vec!["ladder", &book, "--currency", &group],
-            Print::Commodity(_) => vec!["ladder", &book, "--commodity", &group],
+            Print::Options => vec!["options", &file],
+            Print::Report => vec!["report", &file],
+            Print::Currencies => vec!["report", &file, "--currencies"],
+            Print::SmallBank => vec!["small-bank", &file],
+            Print::Currency(_) => vec!["ladder", &file, "--currency", &group],
+            Print::Commodity(_) => vec!["ladder", &file, "--commodity", &group],
         };
         let table = format!("{}.table", self.sample);
         if self.table.is_some() {
@@ -115,6 +129,7 @@ impl Stored {
         let name = format!("{}.table", self.sample);
         let note = self.table.as_ref().map(|table| again::note(&name, table));
         let figures = match self.print {
+            Print::Options => again::options(&options_of(&self.sample).unwrap()),
             Print::Report => again::report(&self.book.encode().unwrap(), table),
             Print::Currencies => again::currencies(&self.book, table),
             Print::SmallBank => again::small_bank(&self.book),
@@ -131,11 +146,25 @@ fn table_of(sample: &str) -> Option<Vec<u8>> {
     Some(tables::text::parse(&text).unwrap().encode())
 }
 
+/// What is printed of an option table.
+fn of_options(sample: String) -> Stored {
+    Stored {
+        sample,
+        book: Book::default(),
+        table: None,
+        print: Print::Options,
+    }
+}
+
 /// Every print of every sample, and once more under its own table, which no commodity has a
 /// part in.
 pub fn all() -> Vec<Stored> {
     let mut all = Vec::new();
     for sample in names(&samples(), ".csv") {
+        if options_of(&sample).is_some() {
+            all.push(of_options(sample));
+            continue;
+        }
         let book = rows(&sample);
         let stored = |table: Option<Vec<u8>>, print| Stored {
             sample: sample.clone(),
