@@ -93,6 +93,9 @@ static void dearest(void) { market_risk_dearest(4 * ROWS, 1000000000, joined, si
 
 static void price(void) { market_risk_options(options, sizeof options, joined, sizeof joined, out); }
 
+/* A limit that no amount brings the currency to: every amount is within reach of the search. */
+static void least_trade(void) { market_risk_least_trade(book, sizeof book, table, sizeof table, 1, 3, 1, 0, out); }
+
 static size_t used(void (*call)(void))
 {
     ucontext_t here, there;
@@ -123,11 +126,12 @@ int main(void)
     int refused;
 
     fill();
-    refused = print_used("check", check) + print_used("table", give_table); /* the next two take this table */
+    refused = print_used("check", check) + print_used("table", give_table); /* the next two and the last take this table */
     refused += print_used("charge", charge) + print_used("interest_ladder", interest_ladder);
     refused += print_used("commodity_ladder", commodity_ladder) + print_used("small_bank", small_bank);
     refused += print_used("join", join) + print_used("net", net);
     refused += print_used("offset", offset) + print_used("net_and_offset", net_and_offset);
     refused += print_used("shortest", shortest) + print_used("dearest", dearest);
-    return refused + print_used("options", price);
+    refused += print_used("options", price);
+    return refused + print_used("least_trade", least_trade);
 }

@@ -4,8 +4,8 @@
  * commodities, those of one bond, long and short, before it is netted and after, those of
  * three swap legs, before they offset each other and after, in two orders, and those of legs
  * of one issue, netted and offset in one call. Last the shortest files that show why books are
- * refused, the dearest books of some rows of at most an amount, and options: the rows of their
- * deltas and what these cost, gamma and vega.
+ * refused, the dearest books of some rows of at most an amount, options: the rows of their deltas
+ * and what these cost, gamma and vega, and the least trades that bring a currency within a limit.
  *
  *     cc -Wall -Wextra -Werror -Iinclude examples/charge.c target/staticlib/libmarket_risk.a -o charge
  */
@@ -121,6 +121,16 @@ static const uint8_t hedged[2 + 4 * 18] = {
     3, 0, 3, 0, 10,   0,    0, 0, 0,    0,    5,   0, 0,  0, 0,    0,    0,    0,
     4, 5, 1, 0, 0xd4, 0x30, 0, 0, 0xe6, 0x0a, 170, 0, 84, 0, 0xd0, 0x07, 0x39, 0x04,
     2, 3, 0, 3, 3,    0,    0, 0, 0x05, 0x0d, 9,   0, 2,  0, 100,  0,    0,    0,
+};
+
+/* Currency 7, a government bond of coupon 800, long 100 at 900 days (0x0384): band 5, where the weight is 175 in document 01's table. 17,500 are
+ * left, which is 1,750,000 mils. A unit short in that band leaves 175 less, at 100%, and matches 175, at 10%: 15,750 mils less. 47 units leave
+ * 1,009,750 and 48 leave 994,000. 100 leave 175,000, the least: beyond that what is left grows again. A unit short in band 14, where the weight is
+ * 1,250, matches so much between zones 2 and 3, at 40%: 75,000 mils less. 10 units leave 1,000,000. In the table of its own above a unit is 100: the
+ * bond costs 1,000,000, and a unit short in band 5, with 20% within the band, 8,000 less. 13 leave 896,000. */
+static const uint8_t bond[8 + 16] = {
+    1, 0, 0, 0, 0, 0, 0, 0,
+    7, 1, 0x84, 0x03, 0x20, 0x03, 0, 0, 100, 0, 0, 0, 0, 0, 0, 0,
 };
 
 /* Prints the weights and the per cents of a table. */
@@ -328,6 +338,40 @@ static void print_all_options(void)
     print_options("option table of four that all give a row, for which there is no room", more, sizeof more);
 }
 
+/* Prints the least amount that brings currency 7 of the bond's book to at most limit mils, added to a band on a side: 0 long, 1 short. */
+static void print_least_trade(const char *name, const uint8_t table[36], size_t band, size_t side, uint64_t limit)
+{
+    uint64_t result[5];
+
+    market_risk_least_trade(bond, sizeof bond, table, 36, 7, band, side, limit, result);
+    printf("%s\n", name);
+    if (result[0] != 0)
+        printf("refused %" PRIu64 " row %" PRIu64 "\n", result[0], result[1]);
+    else if (result[3] == 0)
+        printf("none\n");
+    else
+        printf("amount %" PRIu64 "\n", result[4]);
+}
+
+/* Limits that some amount reaches, limits that none does, and a band and a side that there are not. */
+static void print_least_trades(void)
+{
+    uint8_t table[36];
+
+    market_risk_table(table);
+    print_least_trade("least short of band 5 to cost 1,000,000", table, 5, 1, 1000000);
+    print_least_trade("least short of band 5 to cost 1,009,750", table, 5, 1, 1009750);
+    print_least_trade("least short of band 14 to cost 1,000,000", table, 14, 1, 1000000);
+    print_least_trade("least short of band 5 to cost 1,750,000", table, 5, 1, 1750000);
+    print_least_trade("least short of band 5 to cost 175,000", table, 5, 1, 175000);
+    print_least_trade("least short of band 5 to cost 174,999", table, 5, 1, 174999);
+    print_least_trade("least short of band 5 to cost nothing", table, 5, 1, 0);
+    print_least_trade("least long of band 5 to cost 1,000,000", table, 5, 0, 1000000);
+    print_least_trade("least short of band 5 to cost 900,000 under the table of its own", own, 5, 1, 900000);
+    print_least_trade("least short of band 15 to cost 1,000,000", table, 15, 1, 1000000);
+    print_least_trade("least of side 2 of band 5 to cost 1,000,000", table, 5, 2, 1000000);
+}
+
 int main(void)
 {
     static const uint8_t zeros[8 + 1];
@@ -379,5 +423,6 @@ int main(void)
     print_dearest("dearest book of 4,001 rows", 4001, 100);
     print_dearest("dearest book of two rows of at most 0", 2, 0);
     print_all_options();
+    print_least_trades();
     return 0;
 }

@@ -9,8 +9,8 @@
  *              document 02: 13 and 14, an issue that cannot be netted; 15, a floating-rate note
  *              with fixing over 360 days, or final maturity over 36,000 or before fixing; 16 and
  *              17, a refused option table; 18 and 19, a refused table; 20, interest or equity rows
- *              in a small bank's book; 22, a dearest book of too many rows or of an amount out of
- *              its range
+ *              in a small bank's book; 21, a band or a side that a trade cannot have; 22, a dearest
+ *              book of too many rows or of an amount out of its range
  *     row      the refused row, counted from 0 through the whole file, or for 17 the refused
  *              option, counted from 0 in the option table; 0 for all but 4 to 9, 13 to 15 and 17
  *     book     1 for a fault of the second book of a join, else 0
@@ -40,8 +40,8 @@
  *     market_risk_check              200
  *     market_risk_table              100
  *     market_risk_charge           17000
- *     market_risk_interest_ladder   1000
- *     market_risk_commodity_ladder   600
+ *     market_risk_interest_ladder   1600
+ *     market_risk_commodity_ladder  1100
  *     market_risk_small_bank       15000
  *     market_risk_join               500
  *     market_risk_net              81000
@@ -50,6 +50,7 @@
  *     market_risk_shortest           200
  *     market_risk_dearest            100
  *     market_risk_options          17000
+ *     market_risk_least_trade       1900
  *
  * The charge, the small bank, netting, offsetting and options call memset or memcpy. Where the
  * loader binds these at their first call, that takes some 3000 bytes more, once.
@@ -235,6 +236,26 @@ void market_risk_dearest(size_t rows, uint64_t most, uint8_t *out, size_t out_le
  * two of interest are 0; its total. */
 void market_risk_options(const uint8_t *table, size_t table_len, uint8_t *out, size_t out_len,
                          uint64_t result[17]);
+
+/* The least trade that brings the interest general charge of one currency, group 0 to 31, within a limit,
+ * under a table. A trade is an amount of 0 to 1,000,000 thousands, added to what the book's rows sum to in
+ * one band, 0 to 14, on one side, 0 long or 1 short. It is added to that sum and not to the book as a row.
+ * Within the limit is a charge of at most limit mils, any number, where the charge is the one that
+ * market_risk_interest_ladder gives for these sums. The amount given is within it and no smaller one is,
+ * 0 where the currency is within the limit as it stands. There is none just when no amount from 0 to
+ * 1,000,000 is within it, and that is not a refusal. The charge may fall and rise as the amount grows, and
+ * at a rate that changes: one amount may be the only one within the limit, and larger ones than the one
+ * given need not be. None is left out.
+ * Tried in this order:
+ *     10       a group over 31
+ *     18, 19   the table
+ *     21       a band over 14, or a side over 1
+ * and then the book, as in market_risk_check.
+ * result: number, row, book (0); 1 where there is such an amount and 0 where there is none; the amount, 0
+ * where there is none. */
+void market_risk_least_trade(const uint8_t *book, size_t len, const uint8_t *table, size_t table_len,
+                             size_t group, size_t band, size_t side, uint64_t limit,
+                             uint64_t result[5]);
 
 #ifdef __cplusplus
 }

@@ -2,7 +2,7 @@
 -- Assumes nothing.
 use mathlib.Core.Path.{_≡_, sym, ap, _∙_}
 use mathlib.Core.List.{List}
-use Prim.Native.Nat.{ℕ, _*_, _≤_, _<_}
+use Prim.Native.Nat.{ℕ, _*_, _≤_}
 use native.Mathlib.Nat.{zero-add}
 use native.Mathlib.Omega.{arith}
 use lib.ListN.{length, replicate, length-replicate}
@@ -27,20 +27,26 @@ use Rattle.ladder.proofs.Bounds.{ladder-within}
 use Rattle.charges.specs.Bands.{bandIn}
 use Rattle.charges.specs.Charges.{reading, interestFiguresOf, commodityFiguresOf}
 use Rattle.charges.specs.Inner.Tables.{mostGross, bandsFrom, grossFrom, weightedFrom}
+use Rattle.charges.specs.Report.{classRows}
 use Rattle.charges.specs.Inner.Ladders.{GroupSums}
+use Rattle.charges.specs.Inner.Answers.{SumsGiven}
 use Rattle.charges.proofs.Legs.{amounts, amounts-within}
 
 -- ---- bands from a slot on that agree with the ladder of a group
 module _ (longs shorts : List ℕ) (first g : ℕ) (rows : List Row) where
+  pub weighted-agree : (table : Table) → Agree bandCount (bandsFrom longs shorts first) (ladderOf (reading 1) g rows)
+      → Agree bandCount (weightedFrom table longs shorts first) (ladderOf (weighing table (reading 1)) g rows)
+  weighted-agree table agree =
+      record {
+        below = λ k h.
+            ap (λ (a : Position). record { long = weightIn table k * a .long; short = weightIn table k * a .short }) (agree .below k h)
+            ∙ ap (λ (f : Bands). f k) (sym (ladderOf-weighted (reading 1) table g rows));
+      }
+
   pub interest-from : (table : Table) → Agree bandCount (bandsFrom longs shorts first) (ladderOf (reading 1) g rows)
       → interestFigures (table .percents) (weightedFrom table longs shorts first) ≡ interestFiguresOf table g rows
   unfolding interestFiguresOf
-  interest-from table agree = interest-agree (table .percents) (record { below = each })
-    where
-      each : (k : ℕ) → k < bandCount → weightedFrom table longs shorts first k ≡ ladderOf (weighing table (reading 1)) g rows k
-      each k h =
-          ap (λ (a : Position). record { long = weightIn table k * a .long; short = weightIn table k * a .short }) (agree .below k h)
-          ∙ ap (λ (f : Bands). f k) (sym (ladderOf-weighted (reading 1) table g rows))
+  interest-from table agree = interest-agree (table .percents) (weighted-agree table agree)
 
   pub commodity-from : Agree commodityBandCount (bandsFrom longs shorts first) (ladderOf (reading 4) g rows) → commodityFigures (bandsFrom longs shorts first) ≡ commodityFiguresOf g rows
   unfolding commodityFiguresOf
@@ -66,3 +72,14 @@ group-sized class g rows longs shorts of = (rw (of .is-longs) (sized (λ row. ro
   where
     sized : (amount : Row → ℕ) → length (tally (bandIn class) (inGroup (reading class) g amount) (replicate bandCount 0) rows) ≡ bandCount
     sized amount = length-tally (bandIn class) (inGroup (reading class) g amount) (replicate bandCount 0) rows ∙ length-replicate {A = ℕ} bandCount 0
+
+-- the sums that a ladder call is given are its group's ladder, and fit
+module _ {s : List ℕ} {class first group : ℕ} {longs shorts : List ℕ} (given : SumsGiven s class first group longs shorts) where
+  pub given-sized : (length longs ≡ bandCount) × (length shorts ≡ bandCount)
+  given-sized = group-sized class group (classRows s class) longs shorts (given .sums)
+
+  pub given-agree : (n : ℕ) → n ≤ bandCount → Agree n (bandsFrom longs shorts 0) (ladderOf (reading class) group (classRows s class))
+  given-agree n few = record { below = λ k h. group-agree class group (classRows s class) longs shorts (given .sums) .below k (omega arith) }
+
+  pub given-fits : (n : ℕ) → n ≤ bandCount → grossFrom n longs shorts 0 ≤ mostGross
+  given-fits n few = ladder-fits longs shorts 0 group (classRows s class) class n (given-agree n few) (given .clean) (given .few)

@@ -1,14 +1,14 @@
 -- From what was read of a book to the answers of the ladder calls.
 -- Assumes nothing.
-use mathlib.Core.Path.{_≡_, sym, ap, _∙_}
+use mathlib.Core.Path.{_≡_, refl, sym, ap, _∙_}
 use mathlib.Core.Bool.{cond}
 use mathlib.Core.List.{List}
 use Prim.Native.Nat.{ℕ, _≤_, _<_}
 use native.Mathlib.Omega.{arith}
 use lib.Dec.{eqb}
+use lib.ListN.{replicate}
 use borrow.Author.Tests.{lt-ltb, le-ltb, eq-eqb, ne-eqb}
 use Rattle.sums.proofs.Cases.{either}
-use Rattle.book.specs.declared.Row.{Row}
 use Rattle.book.specs.declared.Refusal.{Refusal}
 use Rattle.book.specs.declared.Checked.{Checked}
 use Rattle.book.specs.declared.Counts.{Counts}
@@ -16,11 +16,12 @@ use Rattle.book.specs.Counts.{countIn, rowCount}
 use Rattle.book.specs.Refusals.{lastGroup, refused, refusalOf}
 use Rattle.book.specs.Inner.Reading.{noCounts, checkedWith, checkedOf, partRows, ReadOf}
 use Rattle.book.specs.Parts.{partOf}
+use Rattle.ladder.specs.Inner.Steps.{bandCount}
 use Rattle.ladder.specs.declared.InterestFigures.{InterestFigures}
 use Rattle.ladder.specs.declared.CommodityFigures.{CommodityFigures}
 use Rattle.charges.specs.Report.{InterestLadder, CommodityLadder, classRows, before, ladderRefusal}
-use Rattle.charges.specs.Inner.Ladders.{CleanPart}
-use Rattle.charges.specs.Inner.Answers.{ladderChecked, LadderRead}
+use Rattle.charges.specs.Inner.Ladders.{CleanPart, GroupSums}
+use Rattle.charges.specs.Inner.Answers.{LadderSums, ladderChecked, LadderRead, LadderSumsOf}
 
 -- ---- a part that was read
 -- no class has more rows than all
@@ -65,24 +66,45 @@ module _ (s : List ℕ) (first group : ℕ) where
   given-ladder checked range none read =
       record { is = read .is ∙ simp (le-ltb lastGroup group range, eq-eqb first 0 none); none-first = λ e. none; in-range = λ e. range; read = λ e. read }
 
-  -- what a ladder call gives, of either ladder: its refusal, and its figures where it is refused and where it is not
+  -- what is read for a ladder call
   module _ (checked : Checked) (ladder : LadderRead s first group checked) where
     ladder-refusal : checked .refusal ≡ ladderRefusal (before first (refusalOf s)) group
     unfolding ladderChecked checkedWith
     ladder-refusal = ap (λ (x : Checked). x .refusal) (ladder .is)
 
-    pub ladder-refused : {A : Type 0} (figures none : A) → (checked .refusal .number ≡ 0 → ⊥)
-        → (checked .refusal ≡ ladderRefusal (before first (refusalOf s)) group) × (cond (eqb (ladderRefusal (before first (refusalOf s)) group .number) 0) figures none ≡ none)
-    ladder-refused figures none bad = (ladder-refusal, simp (ne-eqb _ _ (λ e. bad (ap (λ (r : Refusal). r .number) ladder-refusal ∙ e))))
+    -- the sums of a group: those of the class's part of the book, or none
+    module _ (class : ℕ) where
+      pub sums-given : 1 ≤ class → class ≤ 4 → {part longs shorts : List ℕ} → checked .refusal .number ≡ 0 → part ≡ partOf s class
+          → GroupSums class group (partRows part) longs shorts
+          → LadderSumsOf s class first group (record { refusal = checked .refusal; longs = longs; shorts = shorts })
+      sums-given low high {part} {longs} {shorts} good part-is sums =
+          let read = ladder .read good in
+          let rows : partRows part ≡ classRows s class = ap partRows part-is ∙ read .rows good class low high in
+          let clean : CleanPart class part = rw part-is (read-part s checked read class low high) in
+          record {
+            is-refusal = ladder-refusal;
+            given = λ e. record { none-first = ladder .none-first good; clean = rw (← rows) (clean .clean); few = rw (← rows) (clean .few); sums = rw (← rows) sums };
+            no-longs = λ bad. absurd (bad good);
+            no-shorts = λ bad. absurd (bad good);
+          }
 
-    pub ladder-given : {A : Type 0} (of : List Row → A) (none : A) (class : ℕ) → 1 ≤ class → class ≤ 4 → (part : List ℕ)
-        → checked .refusal .number ≡ 0 → part ≡ partOf s class
-        → (checked .refusal ≡ ladderRefusal (before first (refusalOf s)) group)
-        × (cond (eqb (ladderRefusal (before first (refusalOf s)) group .number) 0) (of (classRows s class)) none ≡ of (partRows part))
-    ladder-given of none class low high part good part-is =
-        let passes = eq-eqb _ _ (ap (λ (r : Refusal). r .number) (sym ladder-refusal) ∙ good) in
-        let rows = ap partRows part-is ∙ ladder .read good .rows good class low high in
-        (ladder-refusal, simp passes (sym (ap of rows)))
+      pub sums-refused : (checked .refusal .number ≡ 0 → ⊥)
+          → LadderSumsOf s class first group (record { refusal = checked .refusal; longs = replicate bandCount 0; shorts = replicate bandCount 0 })
+      sums-refused bad = record { is-refusal = ladder-refusal; given = λ e. absurd (bad e); no-longs = λ _. refl; no-shorts = λ _. refl }
+
+-- ---- what a ladder call gives, of either ladder
+module _ {s : List ℕ} {class first group : ℕ} {r : LadderSums} (sums : LadderSumsOf s class first group r) where
+  told : r .refusal .number ≡ ladderRefusal (before first (refusalOf s)) group .number
+  told = ap (λ (refusal : Refusal). refusal .number) (sums .is-refusal)
+
+  -- its figures where it is refused, and where it is not
+  pub ladder-refused : {A : Type 0} (figures none : A) → (r .refusal .number ≡ 0 → ⊥)
+      → cond (eqb (ladderRefusal (before first (refusalOf s)) group .number) 0) figures none ≡ none
+  ladder-refused figures none bad = simp (ne-eqb _ _ (λ e. bad (told ∙ e)))
+
+  pub ladder-given : {A : Type 0} (figures none : A) → r .refusal .number ≡ 0
+      → cond (eqb (ladderRefusal (before first (refusalOf s)) group .number) 0) figures none ≡ figures
+  ladder-given figures none good = simp (eq-eqb _ _ (sym told ∙ good))
 
 -- the answers, field by field
 pub same-interest : {refusal refusal′ : Refusal} {figures figures′ : InterestFigures} → refusal ≡ refusal′ → figures ≡ figures′

@@ -6,7 +6,7 @@ mod ladders;
 mod pass;
 pub mod reports;
 mod slots;
-mod tables;
+pub mod tables;
 mod weights;
 
 use crate::slots::GROUP_SLOTS;
@@ -22,7 +22,7 @@ ghost use mathlib.Core.Path.{_≡_};
 ghost use Prim.Native.Nat.{_+_, _≤_};
 ghost use Rattle.charges.specs.Report.{reportOf, interestLadderOf, commodityLadderOf};
 ghost use Rattle.charges.specs.SmallBank.{smallWith, smallBankOf};
-ghost use Rattle.charges.specs.Inner.Answers.{mostTotal, LadderRead};
+ghost use Rattle.charges.specs.Inner.Answers.{mostTotal, LadderRead, LadderSumsOf};
 
 // The two parts of a class's charge.
 pub struct Risk {
@@ -56,6 +56,13 @@ pub struct CommodityLadder {
     pub figures: CommodityFigures,
 }
 
+// The sums of one group of a class for its ladder, longs and shorts by band; all zero but the refusal where it is refused.
+pub struct LadderSums {
+    pub refusal: Refusal,
+    pub longs: [u64; BANDS],
+    pub shorts: [u64; BANDS],
+}
+
 // The figures of a bank with foreign exchange and commodities alone, in mils; all zero but the refusal where it is refused.
 pub struct SmallBank {
     pub refusal: Refusal,
@@ -81,9 +88,8 @@ pub fn interest_ladder(book: &[u8], table: &[u8], group: usize) -> InterestLadde
     ensures { λ r. ⌜ r ≡ interestLadderOf (now (table .entry)) (now (book .entry)) group ⌝ }
 {
     let read = table::load(table);
-    let checked = ladder_checked(book, read.number, group);
-    let refusal = checked.refusal;
-    let counts = checked.counts;
+    let sums = ladder_sums(book, 1, read.number, group);
+    let refusal = sums.refusal;
     if refusal.number != 0 {
         return InterestLadder {
             refusal,
@@ -93,15 +99,8 @@ pub fn interest_ladder(book: &[u8], table: &[u8], group: usize) -> InterestLadde
     let by = read.table;
     let weights = by.weights;
     let percents = by.percents;
-    let mut longs = [0u64; BANDS];
-    let mut shorts = [0u64; BANDS];
-    ladders::tally(
-        book::body(book, counts, 1),
-        1,
-        group,
-        &mut longs,
-        &mut shorts,
-    );
+    let longs = sums.longs;
+    let shorts = sums.shorts;
     InterestLadder {
         refusal,
         figures: general::interest_figures(&longs, &shorts, 0, &weights, percents),
@@ -112,27 +111,40 @@ pub fn interest_ladder(book: &[u8], table: &[u8], group: usize) -> InterestLadde
 pub fn commodity_ladder(book: &[u8], group: usize) -> CommodityLadder
     ensures { λ r. ⌜ r ≡ commodityLadderOf (now (book .entry)) group ⌝ }
 {
-    let checked = ladder_checked(book, 0, group);
-    let refusal = checked.refusal;
-    let counts = checked.counts;
+    let sums = ladder_sums(book, 4, 0, group);
+    let refusal = sums.refusal;
     if refusal.number != 0 {
         return CommodityLadder {
             refusal,
             figures: ladders::no_commodity(),
         };
     }
-    let mut longs = [0u64; BANDS];
-    let mut shorts = [0u64; BANDS];
-    ladders::tally(
-        book::body(book, counts, 4),
-        4,
-        group,
-        &mut longs,
-        &mut shorts,
-    );
+    let longs = sums.longs;
+    let shorts = sums.shorts;
     CommodityLadder {
         refusal,
         figures: general::commodity_figures(&longs, &shorts, 0),
+    }
+}
+
+// The sums of a group of a class, or why there are none: a wrong group, a number that comes before the book, or the book's own refusal.
+pub fn ladder_sums(book: &[u8], class: usize, wrong: u8, group: usize) -> LadderSums
+    requires { ⌜ (1 ≤ class) × (class ≤ 4) ⌝ }
+    ensures { λ r. ⌜ LadderSumsOf (now (book .entry)) class wrong group r ⌝ }
+{
+    let checked = ladder_checked(book, wrong, group);
+    let refusal = checked.refusal;
+    let counts = checked.counts;
+    let mut longs = [0u64; BANDS];
+    let mut shorts = [0u64; BANDS];
+    if refusal.number == 0 {
+        let part = book::body(book, counts, class);
+        ladders::tally(part, class, group, &mut longs, &mut shorts);
+    }
+    LadderSums {
+        refusal,
+        longs,
+        shorts,
     }
 }
 

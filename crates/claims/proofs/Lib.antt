@@ -25,3 +25,5 @@ pub mod Dearest
 pub mod DearestBooks
 pub mod Options
 pub mod OptionsBooks
+pub mod Trade
+pub mod TradeBooks

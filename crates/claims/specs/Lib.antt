@@ -23,3 +23,5 @@ pub mod Dearest
 pub mod DearestFacts
 pub mod Options
 pub mod OptionsFacts
+pub mod Trade
+pub mod TradeFacts

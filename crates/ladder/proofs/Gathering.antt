@@ -1,7 +1,7 @@
 -- The ladders as the code makes them: band by band, and then whole.
 -- Assumes nothing.
 use Prim.Native.Nat.{ℕ, suc, _+_, _*_, _≤_, _<_, max}
-use mathlib.Core.Path.{_≡_, refl, sym, ap, _∙_}
+use mathlib.Core.Path.{_≡_, refl, sym, ap}
 use mathlib.Core.List.{List, _∷_}
 use native.Mathlib.Nat.{zero-add}
 use native.Mathlib.Numerals.{add-one}
@@ -9,12 +9,14 @@ use native.Mathlib.Omega.{arith}
 use Rattle.sums.specs.Sums.{span}
 use Rattle.ladder.specs.Position.{Position, Bands, _⊕_, empty, gross, net, total, vertical, bandNets}
 use Rattle.ladder.specs.Table.{Percents, AcceptedPercents}
-use Rattle.ladder.specs.Interest.{Matches, Zones, matches, matchSum, charge, allBands, zones}
+use Rattle.ladder.specs.Interest.{Matches, InterestFigures, Zones, matches, matchSum, charge, allBands, zones}
 use Rattle.ladder.specs.Commodity.{Carried, nothing, toBand, carry, carryFigures, commodityBands}
 use Rattle.ladder.specs.Nets.{absoluteNets, shorthand}
-use Rattle.ladder.specs.Inner.Steps.{PositionStep, Zone, NetStep, ZoneOf, InterestOf, CommodityOf, NetsOf, limit, commodityLimit, netStep, bandStep, carriedStep, zonesStep, zoneOf, combined}
+use Rattle.ladder.specs.Inner.Steps.{PositionStep, Zone, Gathered, NetStep, ZoneOf, ZoneWith, GatheredOf, Summed, InterestOf, CommodityOf, NetsOf, limit, commodityLimit, netStep, bandStep, carriedStep, zonesStep, zoneOf, zoneWith, gatheredGross, gatheredFigures, combined}
+use Rattle.ladder.proofs.Matching.{takes-matched, takes-gross}
+use Rattle.ladder.proofs.Across.{unopposed-net, crossing-adds-up}
 use Rattle.ladder.proofs.Totals.{total-last, vertical-last, fewer-within}
-use Rattle.ladder.proofs.AddsUp.{three-grosses, three-verticals, gross-adds-up, charge-within}
+use Rattle.ladder.proofs.AddsUp.{three-grosses, three-verticals, charge-within}
 use Rattle.ladder.proofs.Netting.{absolutes-within, shorthand-within}
 use Rattle.ladder.proofs.Carrying.{carry-last, carry-gross, commodity-within}
 
@@ -23,33 +25,37 @@ pub same-zone : {a b : Zone} → a .gross ≡ b .gross → a .vertical ≡ b .ve
 same-zone p q r = λ i. record { gross = p i; vertical = q i; nets = r i }
 
 -- ---- a zone, band by band: what its first n bands sum to
-pub record Gathered (f : Bands) (start n : ℕ) (z : Zone) : Type 0 where
+pub record GatheredTo (f : Bands) (start n : ℕ) (z : Zone) : Type 0 where
   pub is : z ≡ zoneOf f (span start n)
   pub sums : 2 * z .vertical + gross (z .nets) ≡ z .gross
 
-pub gathered-none : (f : Bands) (start : ℕ) → Gathered f start 0 (record { gross = 0; vertical = 0; nets = empty })
+pub gathered-none : (f : Bands) (start : ℕ) → GatheredTo f start 0 (record { gross = 0; vertical = 0; nets = empty })
 unfolding zoneOf total vertical span
 gathered-none f start = record { is = refl; sums = refl }
 
 -- the first n bands and the next are within the gross of all
-pub gathered-room : {f : Bands} {start n : ℕ} {z : Zone} → Gathered f start n z → (many : ℕ) → n < many → gross (total f (span start many)) ≤ limit
+pub gathered-room : {f : Bands} {start n : ℕ} {z : Zone} → GatheredTo f start n z → (many : ℕ) → n < many → gross (total f (span start many)) ≤ limit
     → z .gross + gross (f (start + n)) ≤ limit
 unfolding zoneOf
 gathered-room {f} {start} {n} so-far many h within = rw (so-far .is) (omega (arith, fewer-within f start (suc n) many h, ap gross (total-last f start n)))
 
-pub gathered-next : {f : Bands} {start n : ℕ} {z : Zone} {step : PositionStep} → Gathered f start n z
-    → NetStep (z .nets ⊕ f (start + n)) (bandStep (z .nets) (f (start + n))) step
-    → Gathered f start (n + 1) (record { gross = z .gross + gross (f (start + n)); vertical = z .vertical + step .matched; nets = step .left })
-unfolding zoneOf bandStep
+pub zone-in-steps : (zone : Zone) (band : Position) {step : PositionStep} → 2 * zone .vertical + gross (zone .nets) ≡ zone .gross
+    → NetStep (zone .nets ⊕ band) (bandStep (zone .nets) band) step
+    → ZoneWith zone band (record { gross = zone .gross + gross band; vertical = zone .vertical + step .matched; nets = step .left })
+unfolding zoneWith bandStep
+zone-in-steps zone band sums made = record { is = rw (made .is); sums = omega (arith, made .sums) }
+
+pub gathered-next : {f : Bands} {start n : ℕ} {z r : Zone} → GatheredTo f start n z → ZoneWith z (f (start + n)) r → GatheredTo f start (n + 1) r
+unfolding zoneOf zoneWith
 gathered-next {f} {start} {n} so-far made =
     record {
       is =
           rw (made .is, so-far .is, add-one, total-last f start n, vertical-last f start n, total-last (λ k. net (f k)) start n)
           (same-zone (omega arith) refl refl);
-      sums = omega arith;
+      sums = made .sums;
     }
 
-pub gathered-all : {f : Bands} {start n many : ℕ} {z : Zone} → Gathered f start n z → n ≡ many → ZoneOf f (span start many) z
+pub gathered-all : {f : Bands} {start n many : ℕ} {z : Zone} → GatheredTo f start n z → n ≡ many → ZoneOf f (span start many) z
 unfolding zoneOf
 gathered-all so-far all =
     let is = rw all at (so-far .is) in
@@ -61,19 +67,45 @@ pub matches-combined : (z : Zones) (f : Bands) {a b c : Zone} → a ≡ zoneOf f
 unfolding combined zoneOf matches zonesStep
 matches-combined z f a b c = rw (a, b, c) (cc (three-grosses z f, three-verticals z f))
 
-pub interest-matches : {f : Bands} {a b c : Zone} {m : Matches} → ZoneOf f (zones .first) a → ZoneOf f (zones .second) b → ZoneOf f (zones .third) c
-    → m ≡ combined a b c → m ≡ matches zones f
-interest-matches {f} first second third is = is ∙ matches-combined zones f (first .is) (second .is) (third .is)
+-- what the zones match and leave is within their gross
+pub combined-within : (z : Gathered) → Summed z → {m : Matches} → m ≡ combined (z .first) (z .second) (z .third)
+    → matchSum m + m .residual ≤ gatheredGross z
+unfolding combined zonesStep
+combined-within z sums is =
+    rw is
+    (omega (
+      arith,
+      sums .first,
+      sums .second,
+      sums .third,
+      takes-gross (takes-matched (z .first .nets)),
+      takes-gross (takes-matched (z .second .nets)),
+      takes-gross (takes-matched (z .third .nets)),
+      crossing-adds-up (record { zone1 = net (z .first .nets); zone2 = net (z .second .nets); zone3 = net (z .third .nets) })
+          (record { zone1 = unopposed-net _; zone2 = unopposed-net _; zone3 = unopposed-net _ }),
+    ))
 
-pub matches-within : (z : Zones) (f : Bands) {m : Matches} → m ≡ matches z f → matchSum m + m .residual ≤ gross (total f (allBands z))
-unfolding matches
-matches-within z f is = rw is (omega (arith, gross-adds-up z f))
+pub figures-in-steps : (p : Percents) (z : Gathered) {m : Matches} {paid : ℕ} → m ≡ combined (z .first) (z .second) (z .third) → paid ≡ charge p m
+    → _≡_ {A = InterestFigures} (record { matches = m; charge = paid }) (gatheredFigures p z)
+unfolding gatheredFigures
+figures-in-steps p z is cost = rw (cost, is)
 
-pub interest-in-steps : (p : Percents) → AcceptedPercents p → (f : Bands) {m : Matches} {paid : ℕ} → m ≡ matches zones f → paid ≡ charge p m
-    → InterestOf p f (record { matches = m; charge = paid })
-unfolding matches
-interest-in-steps p ok f is cost =
-    record { is = rw (cost, is); is-gross = rw is; within = rw (cost, is) (charge-within p ok zones f) }
+-- zones gathered of a ladder
+module _ {f : Bands} {z : Gathered} (of : GatheredOf f z) where
+  pub gathered-summed : gross (total f (allBands zones)) ≤ limit → Summed z
+  gathered-summed within =
+      record {
+        first = of .first .sums;
+        second = of .second .sums;
+        third = of .third .sums;
+        within = omega (arith, of .first .is-gross, of .second .is-gross, of .third .is-gross, three-grosses zones f);
+      }
+
+pub gathered-interest : {p : Percents} → AcceptedPercents p → {f : Bands} {z : Gathered} → GatheredOf f z → {r : InterestFigures} → r ≡ gatheredFigures p z → InterestOf p f r
+unfolding matches gatheredFigures
+gathered-interest {p} ok {f} {z} of is =
+    let whole = matches-combined zones f (of .first .is) (of .second .is) (of .third .is) in
+    record { is = rw (is, whole); is-gross = rw (is, whole); within = rw (is, whole) (charge-within p ok zones f) }
 
 -- ---- a commodity, band by band: what its first n bands give
 pub record Carries (f : Bands) (n : ℕ) (s : Carried) : Type 0 where

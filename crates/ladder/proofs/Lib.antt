@@ -12,6 +12,8 @@ pub mod Unused
 pub mod Books
 pub mod Bounds
 pub mod Taking
+pub mod Turning
 pub mod Stepping
 pub mod Gathering
+pub mod OneBand
 pub mod Agreeing

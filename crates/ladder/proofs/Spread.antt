@@ -1,11 +1,11 @@
--- What zone 2's matches leave of zones 1 and 3, which bears more than adjacent zones do; and what it comes to where a zone is empty.
+-- What zone 2's matches leave of zones 1 and 3, which bears more than adjacent zones do; what it comes to where a zone is empty, and how far it moves.
 -- Assumes nothing.
-use Prim.Native.Nat.{ℕ, _+_, _-_, _*_, min}
-use mathlib.Core.Path.{_≡_}
+use Prim.Native.Nat.{ℕ, _+_, _-_, _*_, _≤_, min}
+use mathlib.Core.Path.{_≡_, ap}
 use native.Mathlib.Omega.{arith}
-use Rattle.ladder.specs.Position.{Position, gross, matched, absoluteNet}
+use Rattle.ladder.specs.Position.{Position, _⊕_, gross, matched, absoluteNet}
 use Rattle.ladder.specs.Interest.{Ladder, against, left, zones12, zones23, crossing}
-use Rattle.ladder.proofs.Matching.{takes-matched, takes-gross, net-sides}
+use Rattle.ladder.proofs.Matching.{Takes, takes-matched, takes-gross, takes-net, net-sides, absoluteNet-joined, absoluteNet-mirrored}
 use Rattle.ladder.proofs.Across.{OneSided, crossing-adds-up, zones13≤}
 
 -- ---- zone 2 against zones 1 and 3 together
@@ -47,3 +47,38 @@ module _ (x : Ladder) where
 
   pub without-third : OneSided x → gross (x .zone3) ≡ 0 → spread x ≡ (crossing x) .residual
   without-third s none = omega (arith, spread-is s, zones13≤ x)
+
+-- ---- how far it moves when the zones do
+-- how far two numbers are apart, and two positions
+abbrev gap : ℕ → ℕ → ℕ
+gap m n = absoluteNet (record { long = m; short = n })
+
+abbrev pub far : Position → Position → ℕ
+far a b = gap (a .long) (b .long) + gap (a .short) (b .short)
+
+-- b against a and c: what is left moves by no more than the three do
+against-moved : (a b c a′ b′ c′ : ℕ) → gap (a′ + c′) b′ ≤ gap (a + c) b + gap a′ a + gap b′ b + gap c′ c
+against-moved a b c a′ b′ c′ =
+    let before : Position = record { long = a + c; short = b } in
+    let after : Position = record { long = a′ + c′; short = b′ } in
+    let one : Position = record { long = a′; short = a } in
+    let two : Position = record { long = b; short = b′ } in
+    let three : Position = record { long = c′; short = c } in
+    let moved : Takes (a + b + c) (before ⊕ one ⊕ two ⊕ three) after = omega arith in
+    omega (
+      arith,
+      ap gross (takes-net moved),
+      absoluteNet-joined (before ⊕ one ⊕ two) three,
+      absoluteNet-joined (before ⊕ one) two,
+      absoluteNet-joined before one,
+      absoluteNet-mirrored two,
+    )
+
+pub spread-moved : (x y : Ladder) → spread y ≤ spread x + (far (y .zone1) (x .zone1) + far (y .zone2) (x .zone2) + far (y .zone3) (x .zone3))
+unfolding spread
+spread-moved x y =
+    omega (
+      arith,
+      against-moved (x .zone1 .long) (x .zone2 .short) (x .zone3 .long) (y .zone1 .long) (y .zone2 .short) (y .zone3 .long),
+      against-moved (x .zone1 .short) (x .zone2 .long) (x .zone3 .short) (y .zone1 .short) (y .zone2 .long) (y .zone3 .short),
+    )

@@ -1,6 +1,8 @@
 -- Positions, long and short, and the one step that every ladder is made of: match the smaller side, carry on with the net.
 use Prim.Native.Nat.{ℕ, _+_, _-_, min}
+use mathlib.Core.Bool.{cond}
 use mathlib.Core.List.{List, [], _∷_}
+use lib.Dec.{eqb}
 pub use Rattle.ladder.specs.declared.positions.Position.{Position}
 
 infixl 65 _⊕_
@@ -32,6 +34,10 @@ absoluteNet a = gross (net a)
 -- the position at each band's number; a zone, or a whole ladder, is a list of band numbers (document 01, Interest: bands and zones)
 abbrev pub Bands : Type 0
 Bands = ℕ → Position
+
+-- a position in one band alone
+abbrev pub atBand : ℕ → Position → Bands
+atBand band position = λ k. cond (eqb band k) position empty
 
 -- the bands of a zone put together
 unfoldable pub total : Bands → List ℕ → Position

@@ -12,6 +12,7 @@ use Rattle.join.specs.declared.Joined.{Joined}
 use Rattle.shortest.specs.declared.Shown.{Shown}
 use Rattle.dearest.specs.declared.Costed.{Costed}
 use Rattle.options.specs.declared.Priced.{Priced}
+use Rattle.trade.specs.declared.Trade.{Trade}
 use Rattle.netting.specs.declared.Netted.{Netted}
 
 -- number, row, book (document 01, Who is told no, and why)
@@ -76,3 +77,7 @@ costedEntries costed = refusalEntries (costed .refusal) ++ (costed .length ∷ c
 unfoldable pub pricedEntries : Priced → List ℕ
 pricedEntries priced =
     (refusalEntries (priced .refusal) ++ (priced .length ∷ [])) ++ ((priced .gammas ++ priced .vegas) ++ reportFigures (priced .report))
+
+-- the refusal, 1 where there is an amount and 0 where there is none, the amount (P13)
+unfoldable pub tradeEntries : Trade → List ℕ
+tradeEntries trade = refusalEntries (trade .refusal) ++ (cond (trade .least .found) 1 0 ∷ trade .least .amount ∷ [])

@@ -9,7 +9,8 @@ ghost use Rattle.table.specs.Loaded.{standardBytes};
 ghost use Rattle.layout.specs.Written.{written};
 ghost use Rattle.charges.specs.Report.{reportOf, interestLadderOf, commodityLadderOf};
 ghost use Rattle.charges.specs.SmallBank.{smallBankOf};
-ghost use Rattle.market_risk.specs.Entries.{refusalEntries, reportEntries, interestEntries, commodityEntries, smallEntries};
+ghost use Rattle.trade.specs.Trade.{leastTradeOf};
+ghost use Rattle.market_risk.specs.Entries.{refusalEntries, reportEntries, interestEntries, commodityEntries, smallEntries, tradeEntries};
 
 // The entries of a report: its refusal and figures, and two for each currency.
 const REPORT: usize = 75;
@@ -132,5 +133,28 @@ pub extern "C" fn market_risk_small_bank(book: &[u8], out: &mut [u64; 6])
         bank.exchange,
         bank.commodity,
         bank.total,
+    ];
+}
+
+// The least amount that, added to a side of a band, brings a currency's charge within a limit, by a table.
+#[no_mangle]
+pub extern "C" fn market_risk_least_trade(
+    book: &[u8],
+    table: &[u8],
+    group: usize,
+    band: usize,
+    side: usize,
+    limit: u64,
+    result: &mut [u64; 5],
+)
+    ensures { λ r. ⌜ now (result .exit) ≡ tradeEntries (leastTradeOf (now (table .entry)) (now (book .entry)) group band side limit) ⌝ }
+{
+    let trade = trade::least_trade(book, table, group, band, side, limit);
+    *result = [
+        trade.refusal.number as u64,
+        trade.refusal.row as u64,
+        trade.refusal.book as u64,
+        trade.least.found as u64,
+        trade.least.amount,
     ];
 }

@@ -20,10 +20,19 @@ pub fn read_u16() -> usize
 }
 
 // Four bytes, low byte first.
-pub fn read_u32() -> usize {
+pub fn read_u32() -> usize
+    ensures { λ r. ⌜ r < 4294967296 ⌝ }
+{
     let low = read_u16();
     let high = read_u16();
     low + 65536 * high
+}
+
+// Eight bytes, low byte first.
+pub fn read_u64() -> u64 {
+    let low = read_u32();
+    let high = read_u32();
+    low as u64 + 4294967296 * (high as u64)
 }
 
 // A book of so many bytes to the front of buf: how many bytes of it there were, none where buf is too short.

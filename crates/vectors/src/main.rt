@@ -14,6 +14,9 @@ fn answer_by_table(call: u8, in_runs: bool) -> bool {
     if n != length {
         return false;
     }
+    if call == 16 {
+        return answer_trade(in_runs, &space[..n]);
+    }
     answer_book(call, in_runs, &space[..n])
 }
 
@@ -32,6 +35,22 @@ fn answer_book(call: u8, in_runs: bool, table: &[u8]) -> bool {
         9 => lines::small_bank(&space[..n]),
         _ => lines::commodity_ladder(&space[..n], group),
     }
+    true
+}
+
+// The least trade by a table, as a trade is stored: currency, band, side and limit.
+fn answer_trade(in_runs: bool, table: &[u8]) -> bool {
+    let group = input::read_u16();
+    let band = input::read_u16();
+    let side = input::read_u16();
+    let limit = input::read_u64();
+    let length = input::read_u32();
+    let mut space = io::large_buffer();
+    let n = input::read_book(&mut space, length, in_runs);
+    if n != length {
+        return false;
+    }
+    lines::least_trade(&space[..n], table, group, band, side, limit);
     true
 }
 
@@ -118,6 +137,7 @@ fn answer_next() -> bool {
         10..=13 => answer_written(call, in_runs),
         14 => answer_dearest(),
         15 => answer_written(call, in_runs),
+        16 => answer_by_table(call, in_runs),
         _ => false,
     }
 }

@@ -24,7 +24,7 @@ fn offset(one: &mut i64, other: &mut i64) -> u64 {
 
 /// The vertical matches of a zone's bands, the match of the zone and its net.
 #[inline(always)]
-fn zone(bands: &[Sides]) -> (u64, u64, i64) {
+pub fn zone(bands: &[Sides]) -> (u64, u64, i64) {
     let (mut vertical, mut long, mut short) = (0, 0, 0);
     for sides in bands {
         let matched = sides[0].min(sides[1]);

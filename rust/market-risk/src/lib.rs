@@ -1,9 +1,9 @@
 //! Safe Rust over the proved market-risk library.
 //!
 //! A book is the bytes of document 01's book file. Each call answers with its figures,
-//! or with the [`Refusal`] that says who is told no and why. A charge and an interest ladder
-//! are computed under a [`Table`] of weights and per cents. Options are charged from a table of
-//! their own, by [`options`].
+//! or with the [`Refusal`] that says who is told no and why. A charge, an interest ladder
+//! and the least trade that brings a currency within its limit are computed under a [`Table`] of
+//! weights and per cents. Options are charged from a table of their own, by [`options`].
 //!
 //! ```
 //! // Market 3: an ordinary share long 100, an index short 40 (in thousands).
@@ -22,6 +22,7 @@
 //! calls with the results of the C interface, entry by entry.
 
 mod dearest;
+mod least_trade;
 mod net;
 mod net_and_offset;
 mod offset;
@@ -33,6 +34,7 @@ mod small_bank;
 mod table;
 
 pub use dearest::{dearest, dearest_book, Dearest};
+pub use least_trade::{least_trade, Side};
 pub use net::{net, netted, Netted};
 pub use net_and_offset::{net_and_offset, net_and_offset_book};
 pub use offset::{offset, offset_book};

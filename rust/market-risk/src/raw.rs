@@ -68,6 +68,17 @@ mod c {
             out_len: usize,
             result: *mut u64,
         );
+        pub fn market_risk_least_trade(
+            book: *const u8,
+            len: usize,
+            table: *const u8,
+            table_len: usize,
+            group: usize,
+            band: usize,
+            side: usize,
+            limit: u64,
+            result: *mut u64,
+        );
         pub fn market_risk_dearest(
             rows: usize,
             most: u64,
@@ -207,6 +218,32 @@ pub fn shortest(book: &[u8], out: &mut [u8], result: &mut [u64; 5]) {
             book.len(),
             out.as_mut_ptr(),
             out.len(),
+            result.as_mut_ptr(),
+        )
+    }
+}
+
+/// Number, row, book; 1 where an amount brings the charge within the limit; the least that does.
+pub fn least_trade(
+    book: &[u8],
+    table: &[u8],
+    group: usize,
+    band: usize,
+    side: usize,
+    limit: u64,
+    result: &mut [u64; 5],
+) {
+    // SAFETY: as in `check`; every group, band, side and limit is allowed.
+    unsafe {
+        c::market_risk_least_trade(
+            book.as_ptr(),
+            book.len(),
+            table.as_ptr(),
+            table.len(),
+            group,
+            band,
+            side,
+            limit,
             result.as_mut_ptr(),
         )
     }

@@ -16,7 +16,7 @@ use std::fmt;
 /// ```
 #[derive(Clone, Copy, Debug, PartialEq, Eq)]
 pub struct Refusal {
-    /// 1 to 20 or 22.
+    /// 1 to 22.
     pub number: u64,
     /// The bad row, counted from 0 through the whole file, or for 17 in the option table; 0 for all but 4 to 9,
     /// 13 to 15 and 17.
@@ -71,6 +71,7 @@ impl Refusal {
             18 => "the table has not 36 bytes",
             19 => "the table's weights fall or exceed 2,000, or its per cents are out of order",
             20 => "interest or equity rows in a small bank's book",
+            21 => "band over 14 or side over 1",
             22 => "more than 4,000 rows, or a largest amount that is not 1 to 1,000,000,000",
             _ => "no reason that this interface knows",
         }

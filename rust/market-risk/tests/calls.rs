@@ -142,7 +142,7 @@ fn every_number_that_is_given_has_words() {
         book: 0,
     };
     let unknown = of(99).reason();
-    for number in (1..=20).chain([22]) {
+    for number in 1..=22 {
         assert_ne!(of(number).reason(), unknown, "{number}");
         let rows = (4..=9).chain(13..=15).chain([17]).any(|of| of == number);
         assert_eq!(of(number).to_string().contains(" row 3"), rows, "{number}");
@@ -156,7 +156,7 @@ fn every_entry_is_written() {
     let (mut join, mut net, mut offset) = ([marked; 4], [marked; 5], [marked; 4]);
     let (mut interest, mut commodity) = ([marked; 13], [marked; 7]);
     let (mut small_bank, mut both, mut shortest) = ([marked; 6], [marked; 5], [marked; 5]);
-    let (mut dearest, mut options) = ([marked; 5], [marked; 17]);
+    let (mut dearest, mut options, mut trade) = ([marked; 5], [marked; 17], [marked; 5]);
     let table = Table::amendment();
     for book in [&[0; 8][..], &[]] {
         raw::check(book, &mut check);
@@ -173,6 +173,7 @@ fn every_entry_is_written() {
         raw::dearest(usize::from(book.is_empty()), 1, &mut [0; 8], &mut dearest);
         // No options, or no table.
         raw::options(&book[..book.len() / 4], &mut [0; 8], &mut options);
+        raw::least_trade(book, table.bytes(), 31, 14, 1, 0, &mut trade);
         let results = [
             &mut check[..],
             &mut charge,
@@ -186,6 +187,7 @@ fn every_entry_is_written() {
             &mut shortest,
             &mut dearest,
             &mut options,
+            &mut trade,
         ];
         for out in results {
             assert!(!out.contains(&marked));

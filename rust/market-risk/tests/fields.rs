@@ -2,9 +2,9 @@
 //! Catches two fields that are exchanged, and one that is read from another's entry.
 
 use market_risk::{charge, commodity_ladder, dearest, dearest_book};
-use market_risk::{interest_ladder, join, joined, net, net_and_offset};
+use market_risk::{interest_ladder, join, joined, least_trade, net, net_and_offset};
 use market_risk::{net_and_offset_book, netted, offset, offset_book, options, options_book};
-use market_risk::{raw, shortest, shortest_file, small_bank, Refusal, Shortest, Table};
+use market_risk::{raw, shortest, shortest_file, small_bank, Refusal, Shortest, Side, Table};
 
 /// A row of 16 bytes with one signed amount: long above zero, short below.
 fn row(group: u8, kind: u8, days: u16, coupon: u16, net: i32) -> [u8; 16] {
@@ -400,4 +400,36 @@ fn options_and_their_refusals() {
     let refusal = Refusal { number, row, book };
     assert_eq!(options(&table, &mut out), Err(refusal));
     assert_eq!(options_book(&table), Err(refusal));
+}
+
+#[test]
+fn least_trades_and_their_refusals() {
+    // Band 5, weight 175: 100 long cost 1,750,000, and each unit short 15,750 less.
+    let mut rows = [row(7, 1, 900, 800, 100), row(8, 1, 900, 800, 3)];
+    let whole = book([&rows, &[], &[], &[]]);
+    let table = Table::amendment();
+    let (mut entries, bytes) = ([0; 5], table.bytes());
+    let trade =
+        |book: &[u8], group, band, side, limit| least_trade(book, &table, group, band, side, limit);
+    raw::least_trade(&whole, bytes, 7, 5, 1, 1_000_000, &mut entries);
+    assert_eq!(entries, [0, 0, 0, 1, 48]);
+    assert_eq!(trade(&whole, 7, 5, Side::Short, 1_000_000), Ok(Some(48)));
+    // None and 0 differ, and so do the sides and the groups.
+    raw::least_trade(&whole, bytes, 7, 5, 0, 1_000_000, &mut entries);
+    assert_eq!(entries, [0, 0, 0, 0, 0]);
+    assert_eq!(trade(&whole, 7, 5, Side::Long, 1_000_000), Ok(None));
+    raw::least_trade(&whole, bytes, 8, 5, 0, 1_000_000, &mut entries);
+    assert_eq!(entries, [0, 0, 0, 1, 0]);
+    assert_eq!(trade(&whole, 8, 5, Side::Long, 1_000_000), Ok(Some(0)));
+    // Group, band and limit differ in what is refused.
+    assert_eq!(trade(&whole, 32, 5, Side::Long, 0).unwrap_err().number, 10);
+    assert_eq!(trade(&whole, 7, 15, Side::Long, 0).unwrap_err().number, 21);
+    // Number and row differ: 36,001 days in row 1.
+    rows[1][2..4].copy_from_slice(&36_001u16.to_le_bytes());
+    let bad = book([&rows, &[], &[], &[]]);
+    raw::least_trade(&bad, bytes, 7, 5, 1, 1_000_000, &mut entries);
+    assert_eq!(entries, [6, 1, 0, 0, 0]);
+    let [number, row, book, ..] = entries;
+    let refusal = Refusal { number, row, book };
+    assert_eq!(trade(&bad, 7, 5, Side::Short, 1_000_000), Err(refusal));
 }

@@ -1,7 +1,7 @@
 //! Results as the calls lay them out: number, row, book, and then the figures.
 
 use crate::{CommodityLadder, InterestLadder, Joined, Netted, Offset, Refusal, Report};
-use crate::{Dearest, Options, Shortest, SmallBank};
+use crate::{Dearest, LeastTrade, Options, Shortest, SmallBank};
 
 /// A refusal and figures, of which there must be as many as the call gives.
 fn laid_out<const N: usize>(refusal: Refusal, figures: &[u64]) -> [u64; N] {
@@ -94,6 +94,13 @@ impl Dearest {
     /// The refusal, the length and the total.
     pub fn entries(&self) -> [u64; 5] {
         laid_out(self.refusal, &[self.length, self.total])
+    }
+}
+
+impl LeastTrade {
+    /// The refusal, 1 where there is an amount, and the amount.
+    pub fn entries(&self) -> [u64; 5] {
+        laid_out(self.refusal, &[self.found.into(), self.amount])
     }
 }
 

@@ -5,8 +5,11 @@
 use crate::bands::{interest_band, zone_of_band};
 use crate::book::{read, Class, Refusal, Row};
 use crate::kinds::{FLOATING, GOVERNMENT, OTHER, QUALIFYING};
-use crate::table::{read_table, Table};
+use crate::table::{read_table, Table, BANDS};
 use crate::{figure, GROUPS};
+
+/// The weighted longs and the weighted shorts of each band.
+pub type Bands = [(i128, i128); BANDS];
 
 /// What the ladder call gives: gross, the match sums, the residual and the charge.
 #[derive(Clone, Copy, Debug, Default, PartialEq, Eq)]
@@ -25,7 +28,7 @@ pub struct InterestLadder {
 }
 
 /// The interest rows of one currency: each has a ladder of its own (A.1, 9).
-fn currency(rows: &[Row], group: usize) -> Vec<Row> {
+pub fn currency(rows: &[Row], group: usize) -> Vec<Row> {
     let wanted = |row: &&Row| row.class == Class::Interest && row.group == group;
     rows.iter().filter(wanted).copied().collect()
 }
@@ -39,21 +42,25 @@ fn band_of(row: &Row) -> usize {
     }
 }
 
-/// The weighted longs and the weighted shorts of one band (A.1, 11).
-fn weighted(rows: &[Row], band: usize, table: &Table) -> (i128, i128) {
-    let weight = table.weights[band];
-    rows.iter()
-        .filter(|row| band_of(row) == band)
-        .fold((0, 0), |(long, short), row| {
-            (long + row.long * weight, short + row.short * weight)
-        })
+/// The weighted longs and the weighted shorts of each band (A.1, 11).
+pub fn weighted(rows: &[Row], table: &Table) -> Bands {
+    std::array::from_fn(|band| {
+        let weight = table.weights[band];
+        rows.iter()
+            .filter(|row| band_of(row) == band)
+            .fold((0, 0), |(long, short), row| {
+                (long + row.long * weight, short + row.short * weight)
+            })
+    })
 }
 
 /// Longs against shorts over the net bands of a zone: the match and the signed rest
 /// (A.1, 13).
-fn offset(nets: &[i128]) -> (i128, i128) {
-    let long: i128 = nets.iter().filter(|net| **net > 0).sum();
-    let short: i128 = nets.iter().filter(|net| **net < 0).sum::<i128>().abs();
+fn offset(zone: usize, bands: &Bands) -> (i128, i128) {
+    let inside = (0..BANDS).filter(|band| zone_of_band(*band) == zone);
+    let nets = inside.map(|band| bands[band].0 - bands[band].1);
+    let long: i128 = nets.clone().map(|net| 0.max(net)).sum();
+    let short: i128 = nets.map(|net| 0.max(-net)).sum();
     (long.min(short), long - short)
 }
 
@@ -70,18 +77,13 @@ fn against(one: i128, other: i128) -> (i128, i128, i128) {
     )
 }
 
-/// The ladder over the rows of one currency, in weighted positions. Zones 1 and 2 come
+/// The ladder over the weighted positions of one currency. Zones 1 and 2 come
 /// first, and no position is used twice: document 01's order (A.1, 13).
-fn ladder(rows: &[Row], table: &Table) -> InterestLadder {
-    let bands: Vec<(i128, i128)> = (0..15).map(|band| weighted(rows, band, table)).collect();
+pub fn ladder(bands: &Bands, table: &Table) -> InterestLadder {
     let gross: i128 = bands.iter().map(|(long, short)| long + short).sum();
     let vertical: i128 = bands.iter().map(|(long, short)| long.min(short)).sum();
-    let zone = |zone: usize| {
-        let inside = |band: &usize| zone_of_band(*band) == zone;
-        let net = |band: usize| bands[band].0 - bands[band].1;
-        offset(&(0..15).filter(inside).map(net).collect::<Vec<_>>())
-    };
-    let ((zone_1, net_1), (zone_2, net_2), (zone_3, net_3)) = (zone(1), zone(2), zone(3));
+    let zones = [1, 2, 3].map(|zone| offset(zone, bands));
+    let [(zone_1, net_1), (zone_2, net_2), (zone_3, net_3)] = zones;
     let (zones_1_2, net_1, net_2) = against(net_1, net_2);
     let (zones_2_3, net_2, net_3) = against(net_2, net_3);
     let (zones_1_3, net_1, net_3) = against(net_1, net_3);
@@ -124,16 +126,15 @@ pub fn interest_ladder(book: &[u8], table: &[u8], group: usize) -> InterestLadde
         Err(refusal) => return refused(refusal),
     };
     match read(book) {
-        Ok(rows) => ladder(&currency(&rows, group), &table),
+        Ok(rows) => ladder(&weighted(&currency(&rows, group), &table), &table),
         Err(refusal) => refused(refusal),
     }
 }
 
 /// The general charge: the ladders of all currencies, summed, in mils (A.1, 9).
 pub fn general(rows: &[Row], table: &Table) -> i128 {
-    (0..GROUPS)
-        .map(|group| i128::from(ladder(&currency(rows, group), table).charge))
-        .sum()
+    let of = |group| ladder(&weighted(&currency(rows, group), table), table);
+    (0..GROUPS).map(|group| i128::from(of(group).charge)).sum()
 }
 
 /// The specific charge of interest rows, long or short, in mils (A.1, 2 and 4).

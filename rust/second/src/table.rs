@@ -5,7 +5,7 @@ use crate::bands::interest_weight;
 use crate::book::{number, Refusal};
 
 /// How many bands have a weight.
-const BANDS: usize = 15;
+pub const BANDS: usize = 15;
 
 /// The bytes of a table: a weight is two, low byte first, and a per cent one.
 pub const TABLE_BYTES: usize = 2 * BANDS + 6;

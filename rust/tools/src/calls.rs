@@ -1,8 +1,8 @@
-//! The thirteen calls with the results of the C interface, by whichever calculation.
+//! The fourteen calls with the results of the C interface, by whichever calculation.
 
 use market_risk::raw;
 
-/// A calculation that answers all thirteen calls, writing every entry of each result.
+/// A calculation that answers all fourteen calls, writing every entry of each result.
 pub trait Calls {
     /// What the calculation is called in a message. No two have the same name.
     fn name(&self) -> &'static str;
@@ -32,6 +32,17 @@ pub trait Calls {
     /// Number, row, book; length; gamma of equity, foreign exchange and commodities; vega of the same; six
     /// charges of the written book; its total.
     fn options(&self, table: &[u8], out: &mut [u8], result: &mut [u64; 17]);
+    /// Number, row, book; 1 where there is an amount and 0 where none; the amount.
+    fn least_trade(
+        &self,
+        book: &[u8],
+        table: &[u8],
+        group: usize,
+        band: usize,
+        side: usize,
+        limit: u64,
+        out: &mut [u64; 5],
+    );
     /// Document 01's table.
     fn table(&self, out: &mut [u8; 36]);
 }
@@ -78,6 +89,18 @@ impl Calls for Proved {
     }
     fn options(&self, table: &[u8], out: &mut [u8], result: &mut [u64; 17]) {
         raw::options(table, out, result);
+    }
+    fn least_trade(
+        &self,
+        book: &[u8],
+        table: &[u8],
+        group: usize,
+        band: usize,
+        side: usize,
+        limit: u64,
+        out: &mut [u64; 5],
+    ) {
+        raw::least_trade(book, table, group, band, side, limit, out);
     }
     fn table(&self, out: &mut [u8; 36]) {
         raw::table(out);
@@ -138,6 +161,19 @@ impl Calls for Second {
 
     fn options(&self, table: &[u8], out: &mut [u8], result: &mut [u64; 17]) {
         *result = second::options(table, out).entries();
+    }
+
+    fn least_trade(
+        &self,
+        book: &[u8],
+        table: &[u8],
+        group: usize,
+        band: usize,
+        side: usize,
+        limit: u64,
+        out: &mut [u64; 5],
+    ) {
+        *out = second::least_trade(book, table, group, band, side, limit).entries();
     }
 
     fn table(&self, out: &mut [u8; 36]) {

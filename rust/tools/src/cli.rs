@@ -137,6 +137,12 @@ impl Args {
         self.value(name).map(Path::new)
     }
 
+    /// An option's value as text.
+    pub fn text(&self, name: &str) -> Option<String> {
+        let value = self.value(name)?;
+        Some(value.to_string_lossy().into_owned())
+    }
+
     /// An option's value as a whole number.
     pub fn number(&self, name: &str) -> Result<Option<u64>, Failure> {
         let parse = |value: &OsStr| {

@@ -12,6 +12,7 @@ pub enum Sign {
     Equal,
     AtLeast,
     AtMost,
+    Over,
 }
 
 impl Sign {
@@ -20,6 +21,7 @@ impl Sign {
             Sign::Equal => left == right,
             Sign::AtLeast => left >= right,
             Sign::AtMost => left <= right,
+            Sign::Over => left > right,
         }
     }
 
@@ -28,13 +30,14 @@ impl Sign {
             Sign::Equal => "=",
             Sign::AtLeast => ">=",
             Sign::AtMost => "<=",
+            Sign::Over => ">",
         }
     }
 }
 
 /// One line: a figure, what it is held to, and whether it holds.
 pub struct Line {
-    name: &'static str,
+    name: String,
     figure: String,
     sign: &'static str,
     right: String,
@@ -42,9 +45,9 @@ pub struct Line {
 }
 
 impl Line {
-    pub fn new(name: &'static str, figure: Shown, sign: Sign, right: Shown) -> Line {
+    pub fn new(name: impl Into<String>, figure: Shown, sign: Sign, right: Shown) -> Line {
         Line {
-            name,
+            name: name.into(),
             holds: sign.holds(figure.0, right.0),
             figure: figure.1,
             sign: sign.text(),
@@ -55,7 +58,7 @@ impl Line {
 
 impl fmt::Display for Line {
     fn fmt(&self, out: &mut fmt::Formatter) -> fmt::Result {
-        let (name, figure, sign, right) = (self.name, &self.figure, self.sign, &self.right);
+        let (name, figure, sign, right) = (&self.name, &self.figure, self.sign, &self.right);
         write!(out, "{name} {figure} {sign} {right}")
     }
 }
@@ -74,7 +77,7 @@ pub fn parts<const N: usize>(parts: [(i128, &str); N]) -> Shown {
 
 /// The lines one below the other: names, figures and signs in columns.
 pub fn show(lines: &[Line]) -> String {
-    let cells = |line: &Line| vec![line.name.into(), line.figure.clone(), line.sign.into()];
+    let cells = |line: &Line| vec![line.name.clone(), line.figure.clone(), line.sign.into()];
     let left = table(&lines.iter().map(cells).collect::<Vec<_>>());
     let whole = left.lines().zip(lines);
     whole
@@ -108,6 +111,7 @@ mod tests {
             (Sign::Equal, "=", [false, true, false]),
             (Sign::AtLeast, ">=", [false, true, true]),
             (Sign::AtMost, "<=", [true, true, false]),
+            (Sign::Over, ">", [false, false, true]),
         ];
         for (sign, text, expected) in cases {
             assert_eq!((sign.text(), hold(sign)), (text, expected));

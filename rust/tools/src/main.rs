@@ -9,6 +9,7 @@ mod dearest;
 mod files;
 mod join;
 mod ladder;
+mod least_trade;
 mod lines;
 mod net;
 mod offset;
@@ -30,11 +31,12 @@ use std::io::Write;
 use std::process::ExitCode;
 
 /// The subcommands, in the order of the help text.
-const COMMANDS: [Command; 15] = [
+const COMMANDS: [Command; 16] = [
     pack::COMMAND,
     unpack::COMMAND,
     report::COMMAND,
     ladder::COMMAND,
+    least_trade::COMMAND,
     small_bank::COMMAND,
     join::COMMAND,
     net::COMMAND,

@@ -191,6 +191,8 @@ fn a_line_that_is_not_true_is_seen() {
         ),
         ("charge   0.999  >= 1.0 residual", false),
         ("charge   1.000  >= 1.0 residual", true),
+        ("before   1.001  > 1.000 limit", true),
+        ("before   1.000  > 1.000 limit", false),
         ("2 x charge   1.001  <= 0.5 gross + 0.5 residual", false),
         ("2 x charge   1.000  <= 0.5 gross + 0.5 residual", true),
         (

@@ -2,7 +2,7 @@
 
 mod common;
 
-use common::{fails, packed, prints, sample, temporary};
+use common::{fails, least_trade, packed, prints, sample, temporary};
 use std::fs;
 
 #[test]
@@ -13,6 +13,7 @@ fn help_for_all_and_each() {
         "unpack",
         "report",
         "ladder",
+        "least-trade",
         "small-bank",
         "join",
         "net",
@@ -228,6 +229,7 @@ fn a_broken_note_names_its_two_maturities() {
         &["report", &book, "--currencies"],
         &["ladder", &book, "--currency", "7"],
         &["ladder", &book, "--commodity", "7"],
+        &least_trade(&book, "7 5 short 1"),
     ] {
         let error = fails(1, words);
         assert!(error.contains(&told), "{error}");
@@ -250,6 +252,7 @@ fn csv_text_is_told_from_a_book() {
     for words in [
         &["report", &csv][..],
         &["ladder", &csv, "--currency", "7"],
+        &least_trade(&csv, "7 5 short 1"),
         &["unpack", &csv, &out],
         &["join", &csv, &book, &out],
         &["join", &book, &csv, &out],

@@ -79,6 +79,8 @@ fn lost_output_is_an_error() {
         "report x.book",
         "report x.book --currencies",
         "ladder x.book --currency 7",
+        "least-trade x.book --currency 7 --band 5 --side short --limit 420",
+        "least-trade x.book --currency 7 --band 5 --side short --limit 0",
         "table",
         "table --bytes",
         "compare --count 1",
@@ -232,9 +234,19 @@ fn names_may_be_any_bytes() {
     let run = |command: &str| tool(&folder, command).arg(name).output().unwrap();
     assert!(error(1, run("report")).contains("caf\u{fffd}.book: refused 1"));
     assert!(error(1, run("options")).contains("caf\u{fffd}.book: refused 16"));
+    let trade = |file: &str, more: &str| {
+        let asked = "--currency 7 --band 5 --side short --limit";
+        run(&format!("least-trade {file}{asked}{more}"))
+    };
+    assert!(error(1, trade("", " 420")).contains("caf\u{fffd}.book: refused 1"));
+    let told = error(2, trade("x.book ", ""));
+    assert!(told.contains("--limit is 'caf\u{fffd}.book', not currency units"));
+    let told = error(2, trade("x.book ", " 420 --side"));
+    assert!(told.contains("--side is 'caf\u{fffd}.book', not long or short"));
     let refused = "caf\u{fffd}.book: refused 18";
     assert!(error(1, run("table")).contains(refused));
     assert!(error(1, run("report x.book --table")).contains(refused));
+    assert!(error(1, trade("x.book ", " 420 --table")).contains(refused));
     assert!(run("table --bytes --out").status.success());
     assert!(run("report x.book --table").status.success());
     assert!(run("pack x.csv").status.success());

@@ -61,6 +61,17 @@ extern "C" {
         out_len: usize,
         result: *mut u64,
     );
+    fn market_risk_least_trade(
+        book: *const u8,
+        len: usize,
+        table: *const u8,
+        table_len: usize,
+        group: usize,
+        band: usize,
+        side: usize,
+        limit: u64,
+        result: *mut u64,
+    );
 }
 
 /// A result in which every entry is marked, with room for the longest.
@@ -91,7 +102,7 @@ fn refused_with(number: u64, calls: &[Call]) {
 #[test]
 fn null_with_length_0_is_a_file_of_no_bytes() {
     let (table, length) = (TABLE.as_ptr(), TABLE.len());
-    let calls: [Call; 8] = [
+    let calls: [Call; 9] = [
         // SAFETY, here and below: the header allows null with length 0, and every result
         // has room for its entries.
         (3, &|out| unsafe { market_risk_check(null(), 0, out) }),
@@ -114,20 +125,36 @@ fn null_with_length_0_is_a_file_of_no_bytes() {
         (5, &|out| unsafe {
             market_risk_net_and_offset(null(), 0, null_mut(), 0, out)
         }),
+        (5, &|out| unsafe {
+            market_risk_least_trade(null(), 0, table, length, 7, 14, 1, 0, out)
+        }),
     ];
     refused_with(1, &calls);
+    // A band and a side are tried before the book.
+    let outside: [Call; 2] = [
+        (5, &|out| unsafe {
+            market_risk_least_trade(null(), 0, table, length, 7, 15, 1, 0, out)
+        }),
+        (5, &|out| unsafe {
+            market_risk_least_trade(null(), 0, table, length, 7, 14, 2, 0, out)
+        }),
+    ];
+    refused_with(21, &outside);
 }
 
 /// The same of a table, which is refused with 18, whether the book is null too or not.
 #[test]
 fn null_with_length_0_is_a_table_of_no_bytes() {
     for (book, length) in [(null(), 0), (EMPTY.as_ptr(), EMPTY.len())] {
-        let calls: [Call; 2] = [
+        let calls: [Call; 3] = [
             (75, &|out| unsafe {
                 market_risk_charge(book, length, null(), 0, out)
             }),
             (13, &|out| unsafe {
                 market_risk_interest_ladder(book, length, null(), 0, 7, out)
+            }),
+            (5, &|out| unsafe {
+                market_risk_least_trade(book, length, null(), 0, 7, 15, 2, 0, out)
             }),
         ];
         refused_with(18, &calls);

@@ -14,7 +14,7 @@ use stored::{all, names, samples, Print, Stored};
 fn every_print_is_stored_and_nothing_else() {
     let wanted: BTreeSet<String> = all().iter().map(Stored::name).collect();
     assert_eq!(names(&format!("{}/expected", samples()), ".txt"), wanted);
-    assert_eq!(wanted.len(), 64);
+    assert_eq!(wanted.len(), 65);
     assert_eq!(
         names(&samples(), ".table"),
         BTreeSet::from(["steps".into()])
@@ -41,12 +41,13 @@ fn every_line_of_the_stored_texts_is_calculated_again() {
 }
 
 /// The totals and charges, worked by hand in document 01 and in samples/README.md.
-const BY_HAND: [(&str, &str); 55] = [
+const BY_HAND: [(&str, &str); 56] = [
     ("empty.report", "0.000"),
     ("swap.report", "4,793,392.500"),
     ("swap.currency-7", "4,580,112.500"),
     ("zones.report", "735.000"),
     ("zones.currency-7", "735.000"),
+    ("zones.least-trade", "735.000"),
     ("keyed.currency-7", "735.000"),
     ("join-a.currency-7", "210.000"),
     ("join-b.currency-7", "210.000"),
@@ -109,7 +110,7 @@ fn the_charges_are_those_worked_by_hand() {
         let title = match stored.print {
             Print::Options | Print::Report | Print::SmallBank => "total",
             Print::Currencies => "all",
-            Print::Currency(_) | Print::Commodity(_) => "charge",
+            Print::Currency(_) | Print::Commodity(_) | Print::LeastTrade => "charge",
         };
         // The charge of a ladder and a small bank's total come again in the last lines.
         let line = text.lines().find(|line| line.starts_with(title)).unwrap();

@@ -43,6 +43,7 @@ fn a_short_benchmark_prints_every_line() {
         ("shortest", 3),
         ("dearest", 3),
         ("options", 3),
+        ("least trade", 7),
     ];
     assert_eq!(tables.len(), calls.len());
     for (table, (call, lines)) in tables.iter().zip(calls) {

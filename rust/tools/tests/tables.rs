@@ -2,7 +2,7 @@
 
 mod common;
 
-use common::{fails, packed, prints, run, temporary};
+use common::{fails, least_trade, packed, prints, run, temporary};
 use market_risk::{raw, Table};
 use std::fs;
 
@@ -100,12 +100,14 @@ fn wrong_command_lines_of_tables() {
 }
 
 /// A book and every command that takes a table.
-fn takers<'a>(book: &'a str, table: &'a str) -> [Vec<&'a str>; 4] {
+fn takers<'a>(book: &'a str, table: &'a str) -> [Vec<&'a str>; 5] {
+    let trade = least_trade(book, "7 5 short 420");
     [
         vec!["table", table],
         vec!["report", book, "--table", table],
         vec!["report", book, "--currencies", "--table", table],
         vec!["ladder", book, "--table", table, "--currency", "7"],
+        [&trade[..], &["--table", table]].concat(),
     ]
 }
 
@@ -172,12 +174,13 @@ fn document_01s_own_table_changes_nothing() {
         file("tables/amendment-1996"),
         written("own.bytes", Table::amendment().bytes()),
     ] {
-        let [_, report, currencies, ladder] = takers(&book, &table);
+        let [_, report, currencies, ladder, trade] = takers(&book, &table);
         assert_eq!(prints(&report), prints(&["report", &book]));
         let plain = prints(&["report", &book, "--currencies"]);
         assert_eq!(prints(&currencies), plain);
         let plain = prints(&["ladder", &book, "--currency", "7"]);
         assert_eq!(prints(&ladder), plain);
+        assert_eq!(prints(&trade), prints(&least_trade(&book, "7 5 short 420")));
     }
 }
 

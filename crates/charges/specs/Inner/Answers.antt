@@ -3,13 +3,19 @@ use Prim.Native.Nat.{ℕ, _≤_}
 use mathlib.Core.Path.{_≡_}
 use mathlib.Core.Bool.{cond}
 use mathlib.Core.List.{List}
+use lib.ListN.{length, replicate}
+use Rattle.sums.specs.Every.{Every}
 use Rattle.book.specs.declared.Checked.{Checked}
 use Rattle.book.specs.Counts.{countsOf}
-use Rattle.book.specs.Refusals.{lastGroup, refusalOf}
+use Rattle.book.specs.Refusals.{lastGroup, mostRows, refusalOf}
+use Rattle.book.specs.Accepted.{Clean}
 use Rattle.book.specs.Inner.Reading.{checkedWith, ReadOf}
 use Rattle.book.specs.Parts.{accepts}
 use Rattle.ladder.specs.declared.Table.{Table}
-use Rattle.charges.specs.Report.{Report, refusedReport, chargedReport, before, ladderRefusal}
+use Rattle.ladder.specs.Inner.Steps.{bandCount}
+use Rattle.charges.specs.Report.{Report, refusedReport, chargedReport, before, ladderRefusal, classRows}
+use Rattle.charges.specs.Inner.Ladders.{GroupSums}
+pub use Rattle.charges.specs.declared.LadderSums.{LadderSums}
 
 -- no total is above this
 abbrev pub mostTotal : ℕ
@@ -29,3 +35,16 @@ pub record LadderRead (s : List ℕ) (first group : ℕ) (r : Checked) : Type 0 
   pub none-first : r .refusal .number ≡ 0 → first ≡ 0
   pub in-range : r .refusal .number ≡ 0 → group ≤ lastGroup
   pub read : r .refusal .number ≡ 0 → ReadOf s r
+
+-- the sums of a group for its ladder: the refusal; the sums of its rows, which are clean and at most 4,000, where there is none; else nothing
+pub record SumsGiven (s : List ℕ) (class first group : ℕ) (longs shorts : List ℕ) : Type 0 where
+  pub none-first : first ≡ 0
+  pub clean : Every (Clean class) (classRows s class)
+  pub few : length (classRows s class) ≤ mostRows
+  pub sums : GroupSums class group (classRows s class) longs shorts
+
+pub record LadderSumsOf (s : List ℕ) (class first group : ℕ) (r : LadderSums) : Type 0 where
+  pub is-refusal : r .refusal ≡ ladderRefusal (before first (refusalOf s)) group
+  pub given : r .refusal .number ≡ 0 → SumsGiven s class first group (r .longs) (r .shorts)
+  pub no-longs : (r .refusal .number ≡ 0 → ⊥) → r .longs ≡ replicate bandCount 0
+  pub no-shorts : (r .refusal .number ≡ 0 → ⊥) → r .shorts ≡ replicate bandCount 0

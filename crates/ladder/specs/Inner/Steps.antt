@@ -1,15 +1,18 @@
 -- What the code's functions promise: the value, and what follows of it for the sums that a caller makes.
 use Prim.Native.Nat.{ℕ, _+_, _*_, _≤_}
 use mathlib.Core.Path.{_≡_}
+use mathlib.Core.Bool.{cond}
 use mathlib.Core.List.{List}
+use lib.Dec.{ltb}
 use lib.ListN.{getD}
 use Rattle.ladder.specs.Position.{Position, Bands, _⊕_, gross, matched, net, total, vertical, bandNets}
 use Rattle.ladder.specs.Table.{Percents, Table, AcceptedPercents, mostWeight, weightIn}
-use Rattle.ladder.specs.Interest.{Ladder, LadderStep, Matches, InterestFigures, against, left, together, crossing, allBands, zones, interestFigures}
+use Rattle.ladder.specs.Interest.{Ladder, LadderStep, Matches, InterestFigures, against, left, together, crossing, charge, allBands, zones, interestFigures}
 use Rattle.ladder.specs.Commodity.{CommodityFigures, commodityFigures, commodityBands}
 pub use Rattle.ladder.specs.declared.positions.PositionStep.{PositionStep}
 pub use Rattle.ladder.specs.declared.positions.Offset.{Offset}
 pub use Rattle.ladder.specs.declared.bands.Zone.{Zone}
+pub use Rattle.ladder.specs.declared.Gathered.{Gathered}
 pub use Rattle.ladder.specs.declared.zones.ZonesStep.{ZonesStep}
 
 -- ---- what machine numbers must hold
@@ -93,6 +96,14 @@ pub record ZoneOf (f : Bands) (zone : List ℕ) (r : Zone) : Type 0 where
   pub is-nets : r .nets ≡ bandNets f zone
   pub sums : 2 * r .vertical + gross (r .nets) ≡ r .gross
 
+-- one band more
+unfoldable pub zoneWith : Zone → Position → Zone
+zoneWith zone band = record { gross = zone .gross + gross band; vertical = zone .vertical + matched band; nets = zone .nets ⊕ net band }
+
+pub record ZoneWith (zone : Zone) (band : Position) (r : Zone) : Type 0 where
+  pub is : r ≡ zoneWith zone band
+  pub sums : 2 * r .vertical + gross (r .nets) ≡ r .gross
+
 -- the ladder of three zones whose bands are matched
 unfoldable pub combined : Zone → Zone → Zone → Matches
 combined a b c =
@@ -109,6 +120,37 @@ combined a b c =
       zones13 = across .zones13;
       residual = across .residual;
     }
+
+-- ---- the three zones, gathered
+pub record GatheredOf (f : Bands) (r : Gathered) : Type 0 where
+  pub first : ZoneOf f (zones .first) (r .first)
+  pub second : ZoneOf f (zones .second) (r .second)
+  pub third : ZoneOf f (zones .third) (r .third)
+
+-- their gross, and what is known of each: its matches and its nets make its gross
+abbrev pub gatheredGross : Gathered → ℕ
+gatheredGross z = z .first .gross + z .second .gross + z .third .gross
+
+pub record Summed (z : Gathered) : Type 0 where
+  pub first : 2 * z .first .vertical + gross (z .first .nets) ≡ z .first .gross
+  pub second : 2 * z .second .vertical + gross (z .second .nets) ≡ z .second .gross
+  pub third : 2 * z .third .vertical + gross (z .third .nets) ≡ z .third .gross
+  pub within : gatheredGross z ≤ limit
+
+-- a position more in a band: it goes to the band's zone
+unfoldable pub gatheredWith : Gathered → ℕ → Position → Gathered
+gatheredWith z band position =
+    cond (ltb band 4) (record { first = zoneWith (z .first) position; second = z .second; third = z .third })
+    (cond (ltb band 7) (record { first = z .first; second = zoneWith (z .second) position; third = z .third })
+    (record { first = z .first; second = z .second; third = zoneWith (z .third) position }))
+
+pub record CanGather (z : Gathered) (position : Position) : Type 0 where
+  pub summed : Summed z
+  pub room : gatheredGross z + gross position ≤ limit
+
+-- the figures of the ladder
+unfoldable pub gatheredFigures : Percents → Gathered → InterestFigures
+gatheredFigures p z = let matches = combined (z .first) (z .second) (z .third) in record { matches = matches; charge = charge p matches }
 
 -- ---- what the crate's callers are promised
 -- the interest ladder's figures, their gross, and a bound of the charge

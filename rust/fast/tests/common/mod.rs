@@ -109,6 +109,23 @@ pub fn compare_options(table: &[u8], room: usize) -> u64 {
     result[0]
 }
 
+/// Where a trade is added: a currency, a band of it and a side.
+pub type Place = [usize; 3];
+
+/// Compares the least trade, and gives its entries.
+pub fn compare_least_trade(book: &[u8], table: &[u8], place: Place, limit: u64) -> [u64; 5] {
+    let [group, band, side] = place;
+    let mut result = [OLD; 5];
+    fast::least_trade(book, table, group, band, side, limit, &mut result);
+    let least = second::least_trade(book, table, group, band, side, limit);
+    assert_eq!(
+        result,
+        least.entries(),
+        "{place:?} {limit} {table:?} {book:?}"
+    );
+    result
+}
+
 /// Compares offsetting into so many bytes and gives its refusal's number.
 pub fn compare_offset(book: &[u8], room: usize) -> u64 {
     let (mut out, mut second_out) = (vec![0x55; room], vec![0x55; room]);

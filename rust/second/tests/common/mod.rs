@@ -1,6 +1,7 @@
 //! Books built by hand for the tests, and what they cost under document 01's table.
 #![allow(dead_code)]
 
+pub mod least_trade;
 pub mod options;
 
 use second::{InterestLadder, Report};

@@ -1,6 +1,6 @@
 //! The books that are timed, and the tables that they are charged under.
 
-use super::{both, dearest, issues, legs, options, refusals};
+use super::{both, dearest, issues, least_trade, legs, options, refusals};
 use books::generate::{row, Shape};
 use books::tables::Table;
 use books::{Book, Random, ROW_BYTES};
@@ -26,6 +26,7 @@ pub enum Whose {
     Shortest,
     Dearest,
     Options,
+    LeastTrade,
     /// All the others.
     Others,
 }
@@ -146,7 +147,7 @@ pub fn cases() -> Vec<Case> {
     let written = issues::cases().into_iter().chain(legs::cases());
     let written = written.chain(both::cases()).chain(refusals::cases());
     let written = written.chain(dearest::cases()).chain(options::cases());
-    all.chain(written).collect()
+    all.chain(written).chain(least_trade::cases()).collect()
 }
 
 /// The cases of small banks.

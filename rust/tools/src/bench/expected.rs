@@ -1,6 +1,7 @@
 //! What a call must answer on each book of a case, found apart from the work that is timed.
 
 use super::cases::Case;
+use super::least_trade::Trade;
 use super::work::{Answer, GROUPS, OLD_BYTE};
 use std::rc::Rc;
 
@@ -84,4 +85,20 @@ where
         }
     };
     amounts.iter().map(answer).collect()
+}
+
+/// The answers of a call on each book and what is asked of it.
+pub fn expected_of_trades<F>(case: &Case, trades: &[Trade], call: F) -> Rc<[Answer]>
+where
+    F: Fn(&[u8], Trade, &mut [u64; 5]),
+{
+    let answer = |(book, trade): (&Vec<u8>, &Trade)| {
+        let mut entries = [0; 5];
+        call(book, *trade, &mut entries);
+        Answer {
+            entries: entries.to_vec(),
+            output: Vec::new(),
+        }
+    };
+    case.books.iter().zip(trades).map(answer).collect()
 }

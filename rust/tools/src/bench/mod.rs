@@ -8,6 +8,7 @@ mod expected;
 mod fake;
 mod floors;
 mod issues;
+mod least_trade;
 mod legs;
 mod options;
 mod refusals;
@@ -16,6 +17,7 @@ mod sides;
 #[cfg(test)]
 mod tests;
 mod timed;
+mod trades;
 mod work;
 
 use crate::cli::{print, usage, Args, Command, Failure, Outcome};
@@ -30,7 +32,7 @@ pub const COMMAND: Command = Command {
     brief: "the library's speed beside plain Rust and C",
     help: "market-risk bench [--rounds N]
 
-Times twelve calls, in one run and taking turns, and prints a table for each: medians of N
+Times thirteen calls, in one run and taking turns, and prints a table for each: medians of N
 rounds in nanoseconds, and ratios, proved / other. Below 1 the proved library is faster.
 
   proved   the proved library
@@ -47,7 +49,9 @@ their amounts are equal and their terms apart. Those of both in one call are leg
 which all pair off when they are netted, or fit none. Refusals are shown of books of all classes whose
 last row is bad, and of accepted ones, of which nothing is written. The dearest book takes no book: it is
 written for so many rows and a largest amount, and the floor copies it. Options are of all classes in any
-order, and the floor copies their table. Charges and interest ladders are under document
+order, and the floor copies their table. The least trade is looked for in books of one currency, in one line
+of all, under limits that are met at once, midway (some hundred thousands), by one amount alone and never, and
+missed by one mil with every amount; Rust tries every amount in order. Charges and interest ladders are under document
 01's table, and in one line more under another. The line below netting's tells what one comparison
 takes where all rows are of different issues: the time of the call, by the comparisons. A join is
 of two books with half the rows each; ladders are of each group in turn. Before the timing every result is compared with that of the second

@@ -26,6 +26,14 @@ fn ratio(proved: f64, other: f64) -> f64 {
     proved / other
 }
 
+/// A ratio with two digits behind the point, and with five where it is below a tenth.
+fn shown(ratio: f64) -> String {
+    match ratio < 0.1 {
+        true => format!("{ratio:.5}"),
+        false => format!("{ratio:.2}"),
+    }
+}
+
 impl<'a> Table<'a> {
     /// A call on every case that it takes.
     pub fn new(call: &Call, cases: &'a [Case]) -> Result<Table<'a>, Failure> {
@@ -100,7 +108,20 @@ fn cells(line: &Line) -> Vec<String> {
     let medians: Vec<f64> = line.timed.iter().map(Timed::median).collect();
     let times = medians.iter().map(|median| format!("{median:.1}"));
     let ratios = medians[1..].iter().map(|other| ratio(medians[0], *other));
+    let ratios = ratios.map(shown);
     let first = [line.book.to_string(), whole(line.rows as i128)];
-    let ratios = ratios.map(|ratio| format!("{ratio:.2}"));
     first.into_iter().chain(times).chain(ratios).collect()
+}
+
+#[cfg(test)]
+mod tests {
+    use super::shown;
+
+    /// Catches a small ratio that is shown as none.
+    #[test]
+    fn small_ratios_have_more_digits() {
+        let ratios = [123.456, 1.0, 0.1, 0.0999, 0.00038];
+        let texts = ["123.46", "1.00", "0.10", "0.09990", "0.00038"];
+        assert_eq!(ratios.map(shown), texts);
+    }
 }

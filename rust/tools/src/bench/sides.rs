@@ -4,11 +4,14 @@ use super::cases::{Case, Whose};
 use super::dearest::amounts;
 use super::expected::{
     expected, expected_in_room, expected_of_numbers, expected_of_outputs, expected_of_pairs,
+    expected_of_trades,
 };
 use super::floors::{copy, copy_book, copy_book_bytes, copy_bytes, sum_bytes, sum_words};
+use super::least_trade::{trades, Trade};
 use super::timed::Timed;
 use super::work::{
     in_room, of_book, of_group, of_numbers, of_output, of_pair, of_table, of_table_and_group,
+    of_trades,
 };
 use super::work::{Answer, Work};
 use crate::calls::{Calls, Second};
@@ -39,7 +42,7 @@ impl Call {
 }
 
 /// The calls, in the order of the tables.
-pub const CALLS: [Call; 12] = [
+pub const CALLS: [Call; 13] = [
     Call {
         name: "check",
         takes_table: false,
@@ -111,6 +114,12 @@ pub const CALLS: [Call; 12] = [
         takes_table: false,
         whose: Whose::Options,
         sides: options,
+    },
+    Call {
+        name: "least trade",
+        takes_table: true,
+        whose: Whose::LeastTrade,
+        sides: least_trade,
     },
 ];
 
@@ -264,6 +273,23 @@ fn options(case: &Case) -> Sides<'_> {
         ("proved", proved, expected.clone()),
         ("Rust", plain, expected),
         ("copy", of_output(tables, copy_book::<17>), copied),
+    ])
+}
+
+/// Rust tries every amount in order, as the second calculation does.
+fn least_trade(case: &Case) -> Sides<'_> {
+    let (books, table, trades) = (&case.books, &case.table, trades(case));
+    let second = |book: &[u8], trade: Trade, result: &mut [u64; 5]| {
+        let ([group, band, side], limit) = (trade.place, trade.limit);
+        *result = second::least_trade(book, table, group, band, side, limit).entries();
+    };
+    let expected = expected_of_trades(case, &trades, second);
+    let proved = of_trades(books, table, trades.clone(), raw::least_trade);
+    let plain = of_trades(books, table, trades, fast::least_trade);
+    compared(vec![
+        ("proved", proved, expected.clone()),
+        ("Rust", plain, expected),
+        words(case),
     ])
 }
 

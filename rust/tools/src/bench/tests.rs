@@ -148,7 +148,7 @@ const WRITES: [&str; 6] = [
 ];
 
 /// Other calls that stand in a file of their own in plain Rust.
-const OWN_FILES: [&str; 2] = ["small_bank", "shortest"];
+const OWN_FILES: [&str; 3] = ["small_bank", "shortest", "least_trade"];
 
 /// Catches another call, or another's call, under a name: the compiler names what is run.
 #[test]
@@ -166,6 +166,7 @@ fn each_name_times_its_own_call() {
         "shortest",
         "dearest",
         "options",
+        "least_trade",
     ];
     let cases = cases();
     for (call, function) in CALLS.iter().zip(functions) {
@@ -231,7 +232,8 @@ fn the_small_bank_has_lines_of_its_own() {
         let books: Vec<&str> = table.lines.iter().map(|line| line.book).collect();
         let own = books.iter().filter(|book| **book == "fx and commodity");
         let small_bank = call.name == "small bank";
-        let alone = WRITES[1..].contains(&call.name) || call.name == "shortest";
+        let alone =
+            WRITES[1..].contains(&call.name) || ["shortest", "least trade"].contains(&call.name);
         assert_eq!(own.count(), if small_bank { 3 } else { 0 }, "{books:?}");
         let others = !small_bank && !alone;
         assert_eq!(books.contains(&"all classes"), others, "{books:?}");
@@ -239,8 +241,8 @@ fn the_small_bank_has_lines_of_its_own() {
     }
 }
 
-/// The lines that calls on one book have which write another, or a part of it.
-const OWN_LINES: [(&str, &[(&str, usize)]); 6] = [
+/// The lines that calls have which write a book or a part of one, or look for a trade.
+const OWN_LINES: [(&str, &[(&str, usize)]); 7] = [
     (
         "net",
         &[
@@ -290,11 +292,23 @@ const OWN_LINES: [(&str, &[(&str, usize)]); 6] = [
         "options",
         &[("no rows", 0), ("options", 40), ("options", 1_000)],
     ),
+    (
+        "least trade",
+        &[
+            ("met at once", 40),
+            ("met at once", 4_000),
+            ("met at once, 32 currencies", 4_000),
+            ("met midway", 40),
+            ("met by one amount", 40),
+            ("never met", 40),
+            ("missed by a mil", 40),
+        ],
+    ),
 ];
 
 /// Catches lines of these calls that are missing, or that stand in another call's table.
 #[test]
-fn calls_that_write_have_lines_of_their_own() {
+fn other_calls_have_lines_of_their_own() {
     let cases = cases();
     for call in &CALLS {
         let table = Table::new(call, &cases).unwrap();

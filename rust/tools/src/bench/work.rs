@@ -1,5 +1,6 @@
 //! What is timed: a call on books that lie in memory.
 
+use super::least_trade::Trade;
 use std::any::type_name;
 use std::hint::black_box;
 
@@ -35,7 +36,7 @@ fn pick(books: &[Vec<u8>], at: usize) -> &[u8] {
     black_box(&books[at & (books.len() - 1)])
 }
 
-/// A call on a book, and on a group of it where the call has one.
+/// A call on a book, and on a group of it where the call has one: the number of the run, below 32.
 struct OfBook<'a, F, const N: usize> {
     books: &'a [Vec<u8>],
     call: F,
@@ -121,6 +122,28 @@ where
         },
         path: type_name::<F>(),
         entries: [OLD_ENTRY; N],
+    })
+}
+
+/// A call on a book under a table, with a place for a trade and a limit of each book's own.
+pub fn of_trades<'a, F>(
+    books: &'a [Vec<u8>],
+    table: &'a [u8],
+    trades: Vec<Trade>,
+    call: F,
+) -> Box<dyn Work + 'a>
+where
+    F: Fn(&[u8], &[u8], usize, usize, usize, u64, &mut [u64; 5]) + 'a,
+{
+    Box::new(OfBook {
+        books,
+        call: move |book: &[u8], at: usize, entries: &mut [u64; 5]| {
+            let Trade { place, limit } = black_box(trades[at & (trades.len() - 1)]);
+            let [group, band, side] = place;
+            call(book, black_box(table), group, band, side, limit, entries)
+        },
+        path: type_name::<F>(),
+        entries: [OLD_ENTRY; 5],
     })
 }
 

@@ -1,9 +1,10 @@
 //! One random case: two books, a table, a group, the lengths of five outputs, what is asked of the
-//! dearest book, and two option tables.
+//! dearest book, two option tables, and what is asked of the least trade.
 
 use super::asked::Asked;
 use super::e4::{add_e4, add_e4_issue};
 use super::options::OptionTables;
+use super::trade::Trade;
 use books::damage::{damage, damage_note};
 use books::generate::{book, interest_book, interest_rows, ladder_book, Shape};
 use books::issues::{many, spoil, Issues};
@@ -36,6 +37,8 @@ pub struct Case {
     /// What is asked of the dearest book.
     pub dearest: Asked,
     pub options: OptionTables,
+    /// What is asked of the least trade in the first book.
+    pub trade: Trade,
     /// The seed of the order in which the sample of demand 3 puts rows.
     pub order: u64,
 }
@@ -282,7 +285,7 @@ impl Case {
     /// very many of them, every eighth about swap legs, every sixteenth about both, and every
     /// sixteenth about refusals.
     pub fn new(seed: u64, number: u64) -> Case {
-        // The table and the options have streams of their own.
+        // The table, the options and the trade have streams of their own.
         let table = table(&mut Random::of_case(!seed, number));
         let mut random = Random::of_case(seed, number);
         let [a, b] = match random.below(18) {
@@ -307,6 +310,7 @@ impl Case {
             shortest_room: room_to_show(&mut random, &a),
             dearest: Asked::new(&mut random),
             options: OptionTables::of_case(seed, number),
+            trade: Trade::of_case(seed, number, &a, &table),
             table,
             a,
             b,

@@ -1,11 +1,12 @@
-//! All thirteen calls on one case, entry by entry and byte by byte.
+//! All fourteen calls on one case, entry by entry and byte by byte.
 
 use super::asked::Asked;
 use super::case::Case;
+use super::trade;
 use crate::calls::Calls;
 
 /// What stands in a result before a call, which no figure equals.
-const MARK: u64 = 0xa5a5_a5a5_a5a5_a5a5;
+pub const MARK: u64 = 0xa5a5_a5a5_a5a5_a5a5;
 
 /// The bytes before and after an output that must keep their values.
 const GUARD: usize = 32;
@@ -28,7 +29,7 @@ fn unequal_by(call: &str, names: [&str; 2], one: &[u64], other: &[u64]) -> Optio
 }
 
 /// Runs one call of both calculations and compares what they write.
-fn both<const N: usize>(
+pub fn both<const N: usize>(
     call: &str,
     calculations: [&dyn Calls; 2],
     run: impl Fn(&dyn Calls, &mut [u64; N]),
@@ -184,5 +185,6 @@ pub fn difference(library: &dyn Calls, other: &dyn Calls, case: &Case) -> Option
         .or_else(|| shortest(both, case))
         .or_else(|| dearest(both, case))
         .or_else(|| options(both, case))
+        .or_else(|| trade::difference(both, case))
         .or_else(|| table(library, other))
 }

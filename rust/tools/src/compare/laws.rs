@@ -1,12 +1,13 @@
 //! Demand 3, the charges of each currency, the ladders, the small bank, netting, offsetting, both in
-//! one call, the shortest file, the dearest book and options on one case, by the library's own figures:
-//! lists and ladders that add up, order, mirror and joining, all books of the case under its one table.
+//! one call, the shortest file, the dearest book, options and the least trade on one case, by the library's
+//! own figures: lists and ladders that add up, order, mirror and joining, all books of the case under its
+//! one table.
 
 use super::case::Case;
 use super::check::unequal;
 use super::premises::{at_most_two, zones, Zones};
 use super::{both_laws, dearest_laws, ladders, net_laws, offset_laws, options};
-use super::{shortest_laws, small_laws};
+use super::{shortest_laws, small_laws, trade};
 use crate::calls::Calls;
 use books::{Book, Random, Row};
 use second::GROUPS;
@@ -184,4 +185,5 @@ pub fn broken(calls: &dyn Calls, case: &Case) -> Option<String> {
         .or_else(|| shortest_laws::broken(calls, case))
         .or_else(|| dearest_laws::broken(calls, case))
         .or_else(|| options::broken(calls, case))
+        .or_else(|| trade::broken(calls, case))
 }

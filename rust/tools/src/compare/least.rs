@@ -13,6 +13,7 @@ use super::shortest::Shown;
 use super::small_banks::SmallBanks;
 use super::tables::Tables;
 use super::tally::Tally;
+use super::trade;
 
 /// What 20,000 cases must show at least: about a third of what they do show.
 const LEAST: Tally = Tally {
@@ -125,6 +126,7 @@ const LEAST: Tally = Tally {
         dear: [3_260, 810, 1_420],
     },
     options: options::LEAST,
+    trade: trade::LEAST,
 };
 
 /// The cases that `LEAST` is about.
@@ -485,7 +487,7 @@ mod tests {
         let nothing = Tally::default();
         assert_eq!(
             nothing.lacking(20_000).len(),
-            12 + 9 + 18 + 10 + 12 + 21 + 47 + 34 + 26 + 51 + 25 + 79
+            12 + 9 + 18 + 10 + 12 + 21 + 47 + 34 + 26 + 51 + 25 + 79 + 32
         );
         assert!(LEAST.lacking(20_100).len() > 10);
         let half = nothing.lacking(10_000);
@@ -493,7 +495,7 @@ mod tests {
         // Few cases may miss the rarest, and very few may miss anything.
         assert_eq!(
             nothing.lacking(9_999).len(),
-            12 + 9 + 18 + 10 + 11 + 20 + 42 + 32 + 24 + 33 + 25 + 77
+            12 + 9 + 18 + 10 + 11 + 20 + 42 + 32 + 24 + 33 + 25 + 77 + 31
         );
         assert_eq!(nothing.lacking(41), [""; 0]);
     }

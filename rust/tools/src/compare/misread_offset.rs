@@ -1,6 +1,7 @@
 //! Offsetting with a wrong reading, put in on purpose; all other calls are the second calculation's.
 
 use super::offset_readings::Wrong;
+use super::trade::answer;
 use crate::calls::{Calls, Second};
 
 /// A calculation with a wrong reading.
@@ -94,6 +95,18 @@ impl Calls for Misread {
     }
     fn options(&self, table: &[u8], out: &mut [u8], result: &mut [u64; 17]) {
         Second.options(table, out, result);
+    }
+    fn least_trade(
+        &self,
+        book: &[u8],
+        table: &[u8],
+        group: usize,
+        band: usize,
+        side: usize,
+        limit: u64,
+        out: &mut [u64; 5],
+    ) {
+        *out = answer(book, table, [group, band, side], limit);
     }
     fn table(&self, out: &mut [u8; 36]) {
         Second.table(out);

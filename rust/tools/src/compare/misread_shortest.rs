@@ -2,6 +2,7 @@
 //! the second calculation's.
 
 use super::shortest_readings::Wrong;
+use super::trade::answer;
 use crate::calls::{Calls, Second};
 
 /// A calculation with a wrong reading.
@@ -75,6 +76,18 @@ impl Calls for Misread {
     }
     fn options(&self, table: &[u8], out: &mut [u8], result: &mut [u64; 17]) {
         Second.options(table, out, result);
+    }
+    fn least_trade(
+        &self,
+        book: &[u8],
+        table: &[u8],
+        group: usize,
+        band: usize,
+        side: usize,
+        limit: u64,
+        out: &mut [u64; 5],
+    ) {
+        *out = answer(book, table, [group, band, side], limit);
     }
     fn table(&self, out: &mut [u8; 36]) {
         Second.table(out);

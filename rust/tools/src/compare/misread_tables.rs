@@ -1,6 +1,7 @@
 //! The second calculation with a wrong reading of loaded tables, put in on purpose.
 
 use super::mended::{mended, refused_where_equal};
+use super::trade::answer;
 use crate::calls::{Calls, Second};
 
 /// What is wrong with the reading of a table. All else is the second calculation's.
@@ -206,6 +207,18 @@ impl Calls for Misread {
     }
     fn options(&self, table: &[u8], out: &mut [u8], result: &mut [u64; 17]) {
         Second.options(table, out, result);
+    }
+    fn least_trade(
+        &self,
+        book: &[u8],
+        table: &[u8],
+        group: usize,
+        band: usize,
+        side: usize,
+        limit: u64,
+        out: &mut [u64; 5],
+    ) {
+        *out = answer(book, table, [group, band, side], limit);
     }
     fn table(&self, out: &mut [u8; 36]) {
         Second.table(out);

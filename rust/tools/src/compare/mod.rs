@@ -72,6 +72,7 @@ mod tables;
 mod tally;
 #[cfg(test)]
 mod tests;
+mod trade;
 #[cfg(test)]
 mod wrong_both;
 #[cfg(test)]
@@ -103,7 +104,7 @@ pub const COMMAND: Command = Command {
     help: "market-risk compare [--seed S] [--count N] [--first K]
 
 Makes N pairs of random and damaged books from seed S and holds the proved library to
-the second calculation: all thirteen calls, every entry of every result and every byte of
+the second calculation: all fourteen calls, every entry of every result and every byte of
 every output. Each pair has one table: document 01's, another that is accepted, or one that
 is refused. Demand 3 is sampled too: a reordered, mirrored, or reordered and mirrored book
 has the same report; a joined book takes as many rows as its two parts and, with at most
@@ -131,8 +132,12 @@ accepted and costs what is told of it, its rows are those of the options in thei
 is the exact one or less than a unit more. Gamma and vega of a class are those of its groups together;
 they stay when call and put are exchanged in some options, and vega and the charges when bought and sold
 are in all. Two such books joined cost at most the two, and so do gamma and vega of two tables put
-together. In every fourth pair rows share issue numbers, every eighth is of swap legs, every sixteenth of
-legs that share issue numbers, and every sixteenth of files that are refused.
+together. The least trade, which each pair asks for in its first book, brings the charge within its limit
+as a row of that band and side, and that charge wants the same trade; the charge that there is needs none,
+and a lower limit never a smaller one. The second calculation tries every amount of it; where the answer is
+far this is done in every 200th pair, and in the others the charge is tried at the answer, one below it,
+where it turns and at random. In every fourth pair rows share issue numbers, every eighth is of swap legs,
+every sixteenth of legs that share issue numbers, and every sixteenth of files that are refused.
 
 On a difference it prints the smallest books and option tables that it can find, in hex and row by
 row, with the table next to document 01's, and stops with exit status 1. It also fails when the pairs
@@ -160,7 +165,9 @@ the most that they can cost, some as dear, and option tables, of each size up to
 for each reason, with 17 one past each end of each field and at each place, and with 12, into outputs of
 each length, with options of each class and right, with a delta of 0 and whole, with amounts rounded and
 not, with gammas charged and not charged, of both sides and with a half, with vegas on each side and on
-both, in groups and classes on two sides, joined, and put together, must come up in proportion to N.
+both, in groups and classes on two sides, joined, and put together, and least trades, of nothing, little,
+much and 1,000,000, and none, on each side and in each zone, of weight 0, with three zones used, at the
+limit, and refused for each reason and before the others, must come up in proportion to N.
 
   --seed S    the seed, 1 if not given
   --count N   how many pairs, 20000 if not given

@@ -1,4 +1,4 @@
-//! A case as it is printed: its numbers, its table, its books and its option tables.
+//! A case as it is printed: its numbers, its table, its books, its option tables and its trade.
 
 use super::asked::Asked;
 use super::case::Case;
@@ -43,7 +43,7 @@ impl fmt::Display for Case {
         let (group, room) = (self.group, self.room);
         let (net, offset, both) = (self.net_room, self.offset_room, self.both_room);
         let (shortest, asked) = (self.shortest_room, &self.dearest);
-        let options = &self.options;
+        let (options, trade) = (&self.options, &self.trade);
         let (a, b, table) = (
             show("A", &self.a),
             show("B", &self.b),
@@ -52,7 +52,7 @@ impl fmt::Display for Case {
         write!(
             out,
             "group {group}, outputs of {room} bytes to join, {net} to net, {offset} to offset, {both} \
-             for both and {shortest} to show the refusal\n{table}{a}{b}{options}{asked}"
+             for both and {shortest} to show the refusal\n{table}{a}{b}{options}{trade}{asked}"
         )
     }
 }
@@ -100,7 +100,7 @@ mod tests {
         let numbers = "1,2,3,4,134678021,2569,3083,3597,4111,4625";
         assert!(text.contains(&format!("\n{fields}\n{numbers}\n")), "{text}");
         let second = "option table B, 1 bytes: 07\n(the length does not agree with the count)\n";
-        let room = "options into 23 bytes\nthe dearest book ";
+        let room = "options into 23 bytes\nthe least trade ";
         assert!(text.contains(&format!("\n{second}{room}")), "{text}");
     }
 

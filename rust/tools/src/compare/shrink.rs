@@ -51,6 +51,7 @@ fn plainer(case: &Case) -> impl Iterator<Item = Case> + '_ {
         // A ladder's own rows leave their group with it.
         with(|case| {
             case.group = 0;
+            case.trade.group = case.trade.group / 32 * 32;
             (case.a, case.b) = (in_one_group(&case.a), in_one_group(&case.b));
         }),
     ];
@@ -73,10 +74,12 @@ fn smaller(case: &Case) -> impl Iterator<Item = Case> + '_ {
         offset_room: room(case.offset_room, &offset, second::offset_book(&a)),
         both_room: room(case.both_room, &both, second::net_and_offset_book(&a)),
         shortest_room: room(case.shortest_room, &file, shown(&a)),
+        trade: case.trade.moved([&case.a, &case.table], [&a, &case.table]),
         a,
         ..case.clone()
     });
     let of_table = nearer(&case.table).map(|table| Case {
+        trade: case.trade.moved([&case.a, &case.table], [&case.a, &table]),
         table,
         ..case.clone()
     });
@@ -88,7 +91,13 @@ fn smaller(case: &Case) -> impl Iterator<Item = Case> + '_ {
         options,
         ..case.clone()
     });
-    let plainer = plainer(case).chain(of_asked).chain(of_options);
+    let of_trade = case.trade.plainer().map(|trade| Case {
+        trade,
+        ..case.clone()
+    });
+    // Most trades do not matter, and some take long.
+    let plainer = of_trade.chain(plainer(case));
+    let plainer = plainer.chain(of_asked).chain(of_options);
     plainer.chain(of_table).chain(of_b).chain(of_a)
 }
 
@@ -119,6 +128,7 @@ fn shrink_within(tries: usize, case: &Case, fails: &mut dyn FnMut(&Case) -> bool
 mod tests {
     use super::super::asked::Asked;
     use super::super::options::OptionTables;
+    use super::super::trade::Trade;
     use super::*;
     use books::options::{decode, encode, OptionRow};
     use books::{Book, Row};
@@ -146,6 +156,7 @@ mod tests {
                 room: 500,
             },
             options: OptionTables::of_case(1, 0),
+            trade: Trade::default(),
             order: 1,
         }
     }

@@ -5,12 +5,14 @@ use super::case::Case;
 use super::options::OptionTables;
 use super::premises::{at_most_two, zones};
 use super::run::{Run, DEFAULT_COUNT};
+use super::trade::answer;
+use super::trade::Trade;
 use crate::calls::{Calls, Proved, Second};
 use crate::cli::{Args, Failure};
 use books::legs::LEG;
 use books::Book;
 
-/// The thirteen calls.
+/// The fourteen calls.
 #[derive(Clone, Copy, Debug, PartialEq)]
 enum Call {
     Check,
@@ -25,10 +27,11 @@ enum Call {
     Shortest,
     Dearest,
     Options,
+    LeastTrade,
     Table,
 }
 
-const CALLS: [Call; 13] = [
+const CALLS: [Call; 14] = [
     Call::Check,
     Call::Charge,
     Call::InterestLadder,
@@ -41,6 +44,7 @@ const CALLS: [Call; 13] = [
     Call::Shortest,
     Call::Dearest,
     Call::Options,
+    Call::LeastTrade,
     Call::Table,
 ];
 
@@ -132,6 +136,20 @@ impl Calls for StandIn<'_> {
             Second.options(table, out, result);
         });
     }
+    fn least_trade(
+        &self,
+        book: &[u8],
+        table: &[u8],
+        group: usize,
+        band: usize,
+        side: usize,
+        limit: u64,
+        out: &mut [u64; 5],
+    ) {
+        self.answer(Call::LeastTrade, out, |out| {
+            *out = answer(book, table, [group, band, side], limit);
+        });
+    }
     fn table(&self, out: &mut [u8; 36]) {
         match (self.without.contains(&Call::Table), self.zeros) {
             (false, _) => Second.table(out),
@@ -216,6 +234,7 @@ fn a_run_that_has_seen_too_little_fails() {
             room: 8,
         },
         options: OptionTables::default(),
+        trade: Trade::default(),
         order: 0,
     };
     let message = failure(&empty);
@@ -243,6 +262,9 @@ fn a_run_that_has_seen_too_little_fails() {
     assert!(message.contains("\noption tables refused 17 for group 32: 0 where"));
     assert!(message.contains("\ngammas charged in commodities: 0 where"));
     assert!(message.contains("\ntwo option tables joined on two sides of an underlying: 0 where"));
+    assert!(message.contains("\nleast trades of none: 0 where"));
+    assert!(message.contains("\ntrades with three zones used: 0 where"));
+    assert!(message.contains("\nleast trades refused 21 for the side: 0 where"));
     assert!(message.contains("\ntables refused 18: 0 where"));
     assert!(message.contains("\ntables refused for 1-3 above 100 alone: 0 where"));
     assert!(!message.contains("books accepted: "), "{message}");
@@ -387,6 +409,7 @@ fn a_run_without_three_zones_fails() {
         "currencies joined beside one with three zones: 0 where at least 86 are wanted",
         "currencies dearer when joined: 0 where at least 34 are wanted",
         "netted joins dearer with three zones: 0 where at least 13 are wanted",
+        "trades with three zones used: 0 where at least 12 are wanted",
     ];
     assert_eq!(lacking(without_three), expected);
 }
@@ -429,7 +452,9 @@ fn a_run_without_small_banks_fails() {
 /// Catches a run that has seen no table but document 01's, and so nothing of what is loaded.
 #[test]
 fn a_run_under_document_01_s_table_alone_fails() {
-    let lacking = lacking(under_one_table);
+    let mut lacking = lacking(under_one_table);
+    // Trades are made for the table of their case.
+    lacking.retain(|line| !line.contains("trades "));
     assert!(
         lacking.iter().all(|line| line.contains("tables")),
         "{lacking:?}"

@@ -137,6 +137,7 @@ impl fmt::Display for Tables {
 mod tests {
     use super::super::asked::Asked;
     use super::super::options::OptionTables;
+    use super::super::trade::Trade;
     use super::*;
     use books::tables::random::broken;
     use books::{Random, Row};
@@ -167,6 +168,7 @@ mod tests {
                 room: 0,
             },
             options: OptionTables::default(),
+            trade: Trade::default(),
             offset_room: 0,
             order: 0,
         });

@@ -13,6 +13,7 @@ use super::premises::Premises;
 use super::shortest::Shown;
 use super::small_banks::SmallBanks;
 use super::tables::Tables;
+use super::trade;
 use std::fmt;
 
 /// Counts of books, refusals and joins.
@@ -47,6 +48,7 @@ pub struct Tally {
     pub shown: Shown,
     pub dearest: Dearest,
     pub options: Seen,
+    pub trade: trade::Seen,
 }
 
 impl Tally {
@@ -68,6 +70,7 @@ impl Tally {
         self.shown.count(case);
         self.dearest.count(case);
         self.options.count(case);
+        self.trade.count(case);
         self.ladder_refused += u64::from(case.group > 31);
         self.tables.count(case);
         let charged = second::read_table(&case.table).is_ok();
@@ -129,6 +132,7 @@ impl Tally {
         counts.extend(self.shown.named());
         counts.extend(self.dearest.named());
         counts.extend(self.options.named());
+        counts.extend(self.trade.named());
         counts.extend(numbered("books refused", &self.refused));
         counts.extend(numbered("joins refused", &self.joins));
         counts
@@ -169,6 +173,7 @@ impl fmt::Display for Tally {
         writeln!(out, "{}", self.shown)?;
         writeln!(out, "{}", self.dearest)?;
         writeln!(out, "{}", self.options)?;
+        writeln!(out, "{}", self.trade)?;
         writeln!(
             out,
             "joins refused {not_joined}, for the second book {}",
@@ -214,6 +219,7 @@ mod tests {
                 room: 1_000,
             },
             options: OptionTables::default(),
+            trade: trade::Trade::default(),
             order: 0,
         });
         tally

@@ -5,6 +5,7 @@ use super::case::Case;
 use super::faulty::{Fault, Faulty};
 use super::options::OptionTables;
 use super::run::Run;
+use super::trade::Trade;
 use super::{check, laws};
 use crate::calls::Second;
 use books::{Book, Row};
@@ -239,6 +240,7 @@ fn case(a: &[Row], b: &[Row]) -> Case {
             room: 1_000,
         },
         options: OptionTables::default(),
+        trade: Trade::default(),
         order: 0,
     }
 }

@@ -2,8 +2,8 @@
 
 use super::adding_up;
 use super::bands::{span, LOW_COUPON, ORDINARY, ZONES};
-use super::steps::{amounts, cross_check, steps, Sides, Step};
-use crate::lines::hold;
+use super::steps::{amounts, cross_check, steps, weigh, Sides, Step};
+use crate::lines::{hold, Line};
 use crate::text::{mils, places, table, weighted, whole};
 use books::Row;
 use market_risk::{InterestLadder, Table};
@@ -85,6 +85,25 @@ fn step_table(steps: &[Step], ladder: &InterestLadder) -> String {
     table(&lines)
 }
 
+/// A ladder whose figures are known, as text.
+pub fn draw(
+    group: u64,
+    table: &Table,
+    amounts: &[Sides; 15],
+    ladder: &InterestLadder,
+    lines: &[Line],
+) -> String {
+    let bands = weigh(amounts, table);
+    let (steps, _) = steps(&bands, &table.per_cents());
+    format!(
+        "currency {group}: amounts in thousands, weighted positions and charges in currency units\n\n\
+         {}\n{}\n{}",
+        band_table(&table.weights(), amounts, &bands),
+        step_table(&steps, ladder),
+        adding_up::show(lines)
+    )
+}
+
 /// The ladder of one currency, or where it disagrees with the library.
 pub fn show(
     rows: &[Row],
@@ -92,22 +111,12 @@ pub fn show(
     table: &Table,
     ladder: &InterestLadder,
 ) -> Result<String, String> {
-    let weights = table.weights();
     let amounts = amounts(rows, group);
-    let mut bands = amounts;
-    for (sides, weight) in bands.iter_mut().zip(weights.map(i128::from)) {
-        *sides = (sides.0 * weight, sides.1 * weight);
-    }
+    let bands = weigh(&amounts, table);
     let (steps, rest) = steps(&bands, &table.per_cents());
     let lines = adding_up::interest(rows, group, table, ladder);
     hold(cross_check(&bands, &steps, rest, ladder).err(), &lines)?;
-    Ok(format!(
-        "currency {group}: amounts in thousands, weighted positions and charges in currency units\n\n\
-         {}\n{}\n{}",
-        band_table(&weights, &amounts, &bands),
-        step_table(&steps, ladder),
-        adding_up::show(&lines)
-    ))
+    Ok(draw(group, table, &amounts, ladder, &lines))
 }
 
 #[cfg(test)]

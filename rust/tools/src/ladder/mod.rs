@@ -1,10 +1,11 @@
 //! `ladder`: one currency's or one commodity's ladder as a supervisor draws it.
 
 pub mod adding_up;
-mod bands;
+pub mod bands;
 mod commodity;
 mod interest;
-mod steps;
+mod made;
+pub mod steps;
 
 use crate::cli::{no, usage, Args, Command, Failure, Outcome};
 use crate::files::{input, print, read_book};
@@ -12,6 +13,9 @@ use crate::report::explain;
 use crate::table::Loaded;
 use books::Book;
 use market_risk::{Refusal, Table};
+
+pub use interest::show as currency;
+pub use made::made;
 
 pub const COMMAND: Command = Command {
     name: "ladder",

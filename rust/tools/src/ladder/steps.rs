@@ -3,7 +3,7 @@
 use super::bands::{band, column, ZONES};
 use super::same;
 use books::Row;
-use market_risk::{InterestLadder, PerCents};
+use market_risk::{InterestLadder, PerCents, Table};
 
 /// Longs and shorts.
 pub type Sides = (i128, i128);
@@ -23,6 +23,15 @@ pub fn amounts(rows: &[Row], group: u64) -> [Sides; 15] {
         let sides = &mut bands[band(column(row), row.days)];
         sides.0 += i128::from(row.long);
         sides.1 += i128::from(row.short);
+    }
+    bands
+}
+
+/// The weighted positions of amounts: each side times its band's weight.
+pub fn weigh(amounts: &[Sides; 15], table: &Table) -> [Sides; 15] {
+    let mut bands = *amounts;
+    for (sides, weight) in bands.iter_mut().zip(table.weights().map(i128::from)) {
+        *sides = (sides.0 * weight, sides.1 * weight);
     }
     bands
 }
@@ -79,6 +88,12 @@ pub fn steps(bands: &[Sides; 15], per_cents: &PerCents) -> (Vec<Step>, i128) {
     (steps, zones.iter().sum())
 }
 
+/// What the steps and the rest cost together, in mils.
+pub fn charge(steps: &[Step], rest: i128) -> i128 {
+    let disallowed: i128 = steps.iter().map(|step| step.matched * step.per_cent).sum();
+    disallowed + 100 * rest.abs()
+}
+
 /// Fails where the bands do not lead to the library's figures.
 pub fn cross_check(
     bands: &[Sides; 15],
@@ -102,8 +117,7 @@ pub fn cross_check(
         same(step.name, step.matched, library)?;
     }
     same("residual", rest.abs(), ladder.residual)?;
-    let disallowed: i128 = steps.iter().map(|step| step.matched * step.per_cent).sum();
-    same("charge", disallowed + 100 * rest.abs(), ladder.charge)?;
+    same("charge", charge(steps, rest), ladder.charge)?;
     let matched: i128 = steps.iter().map(|step| step.matched).sum();
     same(
         "twice the matches and the residual",
@@ -116,7 +130,6 @@ pub fn cross_check(
 mod tests {
     use super::*;
     use books::names::FLOATING;
-    use market_risk::Table;
 
     /// Weighted bands in which every step but that between zones 2 and 3 has a match.
     const BANDS: [Sides; 15] = {

@@ -1,6 +1,6 @@
 //! What the program `vectors` must write: one line a call, by the second calculation.
 
-use super::build::{Call, Case};
+use super::build::{Call, Case, Trade};
 use crate::calls::{Calls, Second};
 
 /// What every byte of an output is before a call that writes a book.
@@ -31,6 +31,14 @@ fn writing<const N: usize>(room: u32, call: impl Fn(&mut [u8], &mut [u64; N])) -
     let (mut out, mut result) = (vec![FILL; room as usize], [0; N]);
     call(&mut out, &mut result);
     [&result[..], &[checksum(&out)]].concat()
+}
+
+/// The figures of a least trade.
+fn least_trade(by: &dyn Calls, book: &[u8], trade: &Trade) -> (&'static str, Vec<u64>) {
+    let place = [trade.group, trade.band, trade.side].map(usize::from);
+    let ([group, band, side], mut out) = (place, [0; 5]);
+    by.least_trade(book, &trade.table, group, band, side, trade.limit, &mut out);
+    ("least-trade", out.to_vec())
 }
 
 /// The name of a call and its figures, by a calculation and its own table of document 01.
@@ -82,6 +90,7 @@ fn answer(by: &dyn Calls, case: &Case) -> (&'static str, Vec<u64>) {
             "options",
             writing(*room, |out, result| by.options(book, out, result)),
         ),
+        Call::LeastTrade(trade) => least_trade(by, book, trade),
         Call::SmallBank => {
             by.small_bank(book, &mut small_bank);
             ("small-bank", small_bank.to_vec())
@@ -300,6 +309,38 @@ mod tests {
              options 17 1 0{zeros} {kept}\n\
              options 16 0 0{zeros} 0\n"
         );
+        assert_eq!(lines(&cases), expected);
+    }
+
+    /// Least trades: 48 shorts of the band of a bond, long 100, to 1,000,000; 0 to what it costs; none to nothing; a bad
+    /// second row; and a side that there is not.
+    #[test]
+    fn lines_of_least_trades_have_every_figure() {
+        let bond = row(7, 1, 900, 800, 100);
+        let [good, bad] = [bond.with_group(8), bond.with_days(36_001)]
+            .map(|second| super::super::build::only(0, &[bond, second]));
+        let trade = |book: &[u8], side, limit| {
+            let trade = Trade {
+                table: second::table().to_vec(),
+                group: 7,
+                band: 5,
+                side,
+                limit,
+            };
+            call(Call::LeastTrade(trade), book)
+        };
+        let cases = [
+            trade(&good, 1, 1_000_000),
+            trade(&good, 0, 1_750_000),
+            trade(&good, 1, 0),
+            trade(&bad, 1, 1_000_000),
+            trade(&bad, 2, 1_000_000),
+        ];
+        let expected = "least-trade 0 0 0 1 48\n\
+                        least-trade 0 0 0 1 0\n\
+                        least-trade 0 0 0 0 0\n\
+                        least-trade 6 1 0 0 0\n\
+                        least-trade 21 0 0 0 0\n";
         assert_eq!(lines(&cases), expected);
     }
 }

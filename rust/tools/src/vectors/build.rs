@@ -21,6 +21,17 @@ pub enum Call {
     Shortest { room: u32 },
     Dearest { room: u32, rows: u32, most: u32 },
     Options { room: u32 },
+    LeastTrade(Trade),
+}
+
+/// What a least trade is given besides its book.
+#[derive(Clone, Debug, PartialEq, Eq)]
+pub struct Trade {
+    pub table: Vec<u8>,
+    pub group: u16,
+    pub band: u16,
+    pub side: u16,
+    pub limit: u64,
 }
 
 /// One stored call, of a book or, where it is of options, of an option table.

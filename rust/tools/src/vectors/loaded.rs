@@ -18,7 +18,7 @@ pub const BOOKS: u64 = 40;
 pub const TABLES: u64 = 6;
 
 /// A table of these per cents, with a weight of its own in each band.
-fn with_per_cents(per_cents: [u8; 6]) -> Table {
+pub fn with_per_cents(per_cents: [u8; 6]) -> Table {
     let [vertical, zone_1, zone_2, zone_3, adjacent, zones_1_3] = per_cents;
     Table {
         weights: [1, 3, 7, 11, 13, 17, 19, 23, 29, 31, 37, 41, 43, 47, 2_000],
@@ -30,7 +30,7 @@ fn with_per_cents(per_cents: [u8; 6]) -> Table {
 }
 
 /// The dearest table: 2,000 basis points in each band, and 100% of each match.
-fn dearest() -> Table {
+pub fn dearest() -> Table {
     Table {
         weights: [2_000; BANDS],
         ..with_per_cents([100; 6])

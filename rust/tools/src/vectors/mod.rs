@@ -10,6 +10,12 @@ mod floating;
 mod full;
 mod joins;
 mod ladders;
+mod least_trade_build;
+mod least_trade_faults;
+mod least_trade_random;
+mod least_trade_tables;
+mod least_trade_zones;
+mod least_trades;
 mod loaded;
 mod net_and_offset;
 mod net_and_offset_faults;
@@ -91,6 +97,11 @@ fn cases(seed: u64) -> Vec<Case> {
         options_sums::cases(),
         options_faults::cases(),
         options_random::cases(seed),
+        least_trades::cases(),
+        least_trade_tables::cases(),
+        least_trade_zones::cases(),
+        least_trade_faults::cases(),
+        least_trade_random::cases(seed),
     ]
     .concat()
 }
@@ -147,8 +158,8 @@ mod tests {
         }));
         assert!(books.len() >= 300, "{} books", books.len());
         let [(_, stdin), (_, stdout)] = files(1);
-        assert!(stdin.len() < 615_000, "{} bytes", stdin.len());
-        assert!(stdout.len() < 300_000, "{} bytes", stdout.len());
+        assert!(stdin.len() < 650_000, "{} bytes", stdin.len());
+        assert!(stdout.len() < 310_000, "{} bytes", stdout.len());
     }
 
     #[test]
@@ -197,6 +208,8 @@ mod tests {
             assert_eq!(seen("shortest", number), [0, 12].contains(&number));
             assert_eq!(seen("dearest", number), [0, 12, 22].contains(&number));
             assert_eq!(seen("options", number), [0, 12, 16, 17].contains(&number));
+            let trades = (0..=10).chain([15, 18, 19, 21]).any(|of| of == number);
+            assert_eq!(seen("least-trade", number), trades, "{number}");
         }
     }
 

@@ -1,6 +1,6 @@
 //! docs/VECTORS.md and docs/TRUST.md against what is stored in crates/vectors: the sizes that they state.
 
-use super::build::{Call, Case};
+use super::build::{Call, Case, Trade};
 use super::reader::read;
 use std::collections::HashSet;
 
@@ -29,7 +29,9 @@ fn option_tables(cases: &[Case]) -> usize {
 /// The different tables of some calls.
 fn tables(cases: &[Case]) -> usize {
     let tables = cases.iter().filter_map(|case| match &case.call {
-        Call::ChargeBy { table } | Call::InterestLadderBy { table, .. } => Some(table),
+        Call::ChargeBy { table }
+        | Call::InterestLadderBy { table, .. }
+        | Call::LeastTrade(Trade { table, .. }) => Some(table),
         _ => None,
     });
     tables.collect::<HashSet<_>>().len()
@@ -46,8 +48,10 @@ fn thousands(number: usize) -> String {
 }
 
 /// What the page says of the random books and tables.
-fn randoms() -> [String; 10] {
-    use super::{dearest, loaded, net_and_offset, nets, offsets, options_random, random};
+fn randoms() -> [String; 11] {
+    use super::{
+        dearest, least_trade_random, loaded, net_and_offset, nets, offsets, options_random, random,
+    };
     use super::{shortest, small_banks};
     let (books, tables) = (loaded::BOOKS, loaded::TABLES);
     [
@@ -78,6 +82,10 @@ fn randoms() -> [String; 10] {
         format!(
             "- {} random option tables of the seed",
             options_random::TABLES
+        ),
+        format!(
+            "- {} random least trades of the seed",
+            least_trade_random::CALLS
         ),
     ]
 }

@@ -1,6 +1,6 @@
 //! A reader of the stream, as docs/VECTORS.md describes it.
 
-use super::build::{call, Call, Case};
+use super::build::{call, Call, Case, Trade};
 
 /// What is left of a stream.
 struct Reader<'a> {
@@ -76,6 +76,17 @@ impl Reader<'_> {
             let table = self.book(length, runs);
             assert!(!runs, "an option table has no rows of a book");
             return Some(call(Call::Options { room }, &table));
+        }
+        if tag == 16 {
+            let trade = Trade {
+                table: self.table(),
+                group: self.number(2) as u16,
+                band: self.number(2) as u16,
+                side: self.number(2) as u16,
+                limit: self.number(8) as u64,
+            };
+            let length = self.number(4);
+            return Some(call(Call::LeastTrade(trade), &self.book(length, runs)));
         }
         let table = match tag {
             6 | 7 => self.table(),

@@ -1,6 +1,6 @@
 //! The stream of stored calls: its bytes, as docs/VECTORS.md describes them.
 
-use super::build::{Call, Case};
+use super::build::{Call, Case, Trade};
 use books::ROW_BYTES;
 
 /// Added to a tag whose books are given as runs of equal rows.
@@ -77,6 +77,16 @@ fn of_options(table: &[u8], room: u32) -> Vec<u8> {
     [&[15][..], &numbers.concat(), table].concat()
 }
 
+/// A least trade: tag, table, group, band, side, limit, length, book.
+fn of_least_trade(trade: &Trade, book: &[u8]) -> Vec<u8> {
+    let (form, bytes) = shorter(&[book]);
+    let table = with_length(&trade.table);
+    let place = [trade.group, trade.band, trade.side].map(u16::to_le_bytes);
+    let (limit, length) = (trade.limit.to_le_bytes(), length(book));
+    let head = [&[16 + form][..], &table, &place.concat(), &limit, &length];
+    [&head.concat(), &bytes[..]].concat()
+}
+
 /// One call.
 fn record(case: &Case) -> Vec<u8> {
     let book = &case.book;
@@ -96,6 +106,7 @@ fn record(case: &Case) -> Vec<u8> {
         Call::Shortest { room } => of_writing(13, book, *room),
         Call::Dearest { room, rows, most } => of_dearest(*room, *rows, *most),
         Call::Options { room } => of_options(book, *room),
+        Call::LeastTrade(trade) => of_least_trade(trade, book),
     }
 }
 
@@ -137,7 +148,9 @@ mod tests {
                 | Call::Options { room } => {
                     assert!(*room <= 65_536);
                 }
-                Call::ChargeBy { table } | Call::InterestLadderBy { table, .. } => {
+                Call::ChargeBy { table }
+                | Call::InterestLadderBy { table, .. }
+                | Call::LeastTrade(Trade { table, .. }) => {
                     assert!(table.len() <= 256);
                 }
                 _ => (),
@@ -203,6 +216,26 @@ mod tests {
         let head = [15, 4, 3, 0, 0, 40, 0, 0, 0];
         let record = [&head[..], &table].concat();
         assert_eq!(super::record(&options(&table, 772)), record);
+    }
+
+    /// Catches numbers of a least trade in each other's place, or of fewer bytes, and runs that are not told.
+    #[test]
+    fn a_least_trade_s_numbers_come_after_its_table() {
+        let trade = Trade {
+            table: vec![1, 2, 3],
+            group: 0x0504,
+            band: 0x0706,
+            side: 0x0908,
+            limit: 0x1110_0f0e_0d0c_0b0a,
+        };
+        let numbers: Vec<u8> = (1..=0x11).collect();
+        let head = [&[16, 3, 0][..], &numbers, &[8, 0, 0, 0]].concat();
+        let case = call(Call::LeastTrade(trade.clone()), &[7; 8]);
+        assert_eq!(super::record(&case), [&head[..], &[7; 8]].concat());
+        let book = [&[2, 0, 0, 0, 0, 0, 0, 0][..], &[5; 32]].concat();
+        let head = [&[0x90, 3, 0][..], &numbers, &[40, 0, 0, 0]].concat();
+        let runs = [&head[..], &book[..8], &[2, 0], &[5; 16]].concat();
+        assert_eq!(super::record(&call(Call::LeastTrade(trade), &book)), runs);
     }
 
     #[test]

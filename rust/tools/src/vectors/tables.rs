@@ -83,7 +83,7 @@ fn small() -> Vec<u8> {
 }
 
 /// Books that are refused with 1 to 9 and 15.
-fn bad_books() -> Vec<Vec<u8>> {
+pub fn bad_books() -> Vec<Vec<u8>> {
     let second = |bad: Row| only(0, &[clean(0), bad]);
     vec![
         vec![0; 7],

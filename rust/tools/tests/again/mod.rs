@@ -1,8 +1,9 @@
-//! The lines of reports, ladders, small banks and options calculated again, from document 01's bands, a table's
+//! The lines of reports, ladders, least trades, small banks and options calculated again, from document 01's bands, a table's
 //! weights and per cents, and the second calculation. Nothing here is the command's own code.
 
 mod commodity;
 mod interest;
+mod least_trade;
 mod options;
 mod small_bank;
 
@@ -11,6 +12,7 @@ use std::collections::BTreeSet;
 
 pub use commodity::commodity;
 pub use interest::interest;
+pub use least_trade::{least_trade, Short};
 pub use options::options;
 pub use small_bank::small_bank;
 

@@ -75,3 +75,11 @@ pub fn unpacked(book: &str) -> Vec<String> {
     let text = prints(&["unpack", book, "-"]);
     text.lines().skip(1).map(String::from).collect()
 }
+
+/// The words of `least-trade`: a book; a currency, a band, a side and a limit.
+pub fn least_trade<'a>(book: &'a str, asked: &'a str) -> Vec<&'a str> {
+    let names = ["--currency", "--band", "--side", "--limit"];
+    let options = names.into_iter().zip(asked.split(' '));
+    let options = options.flat_map(|(name, value)| [name, value]);
+    ["least-trade", book].into_iter().chain(options).collect()
+}

@@ -60,7 +60,7 @@ pub struct Line<'a> {
 
 /// Takes a line apart.
 pub fn line(text: &str) -> Line<'_> {
-    let signs = [" = ", " >= ", " <= "];
+    let signs = [" = ", " >= ", " <= ", " > "];
     let found = signs
         .iter()
         .find_map(|sign| Some((sign, text.split_once(sign)?)));
@@ -80,6 +80,7 @@ pub fn is_true(line: &Line) -> bool {
     match line.sign {
         "=" => left == right,
         ">=" => left >= right,
+        ">" => left > right,
         _ => left <= right,
     }
 }

@@ -4,7 +4,7 @@
  * add up, a wrong reading of floating-rate notes, or a table that is not heeded, is accepted
  * against its conditions or is tried out of its order. The small bank's call is in small_bank.c,
  * netting in net.c, offsetting in offset.c, both in net_and_offset.c, the shortest file in shortest.c, the
- * dearest book in dearest.c, options in options.c.
+ * dearest book in dearest.c, options in options.c, the least trade in least_trade.c.
  * The archive's own calls have other names here, proved_check and so on. */
 #include "faults.h"
 

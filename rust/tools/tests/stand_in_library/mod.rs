@@ -2,14 +2,14 @@
 //! the files of tests/stand_in before its calls.
 #![allow(dead_code)]
 
-use crate::common::temporary;
+use crate::common::{least_trade, temporary};
 use std::path::Path;
 use std::process::{Command, Output};
 use std::sync::OnceLock;
 use std::{env, fs};
 
-/// The thirteen calls, as the C interface names them.
-pub const CALLS: [&str; 13] = [
+/// The fourteen calls, as the C interface names them.
+pub const CALLS: [&str; 14] = [
     "check",
     "charge",
     "interest_ladder",
@@ -22,6 +22,7 @@ pub const CALLS: [&str; 13] = [
     "shortest",
     "dearest",
     "options",
+    "least_trade",
     "table",
 ];
 
@@ -39,7 +40,7 @@ fn build(command: &mut Command) {
 }
 
 /// The files of the stand-in.
-const SOURCES: [&str; 8] = [
+const SOURCES: [&str; 9] = [
     "stand_in",
     "small_bank",
     "net",
@@ -48,6 +49,7 @@ const SOURCES: [&str; 8] = [
     "shortest",
     "dearest",
     "options",
+    "least_trade",
 ];
 
 /// Compiles a file of the stand-in into a folder and gives the object.
@@ -126,13 +128,15 @@ pub fn told_of(call: &str, fault: &str) -> String {
     told_within("300", call, fault)
 }
 
-/// The same within so many cases.
+/// The same within so many cases. A seed may show the fault by a claim first: then the next one is tried.
 pub fn told_within(count: &str, call: &str, fault: &str) -> String {
-    let error = fails(fault, &["compare", "--seed", "1", "--count", count]);
-    let mut lines = error.lines();
-    let told = lines.find(|line| line.starts_with(call));
-    told.unwrap_or_else(|| panic!("{fault}: {error}"))
-        .to_string()
+    let told = (1..=9).find_map(|seed| {
+        let seed = seed.to_string();
+        let error = fails(fault, &["compare", "--seed", &seed, "--count", count]);
+        let mut lines = error.lines();
+        lines.find(|line| line.starts_with(call)).map(String::from)
+    });
+    told.unwrap_or_else(|| panic!("{fault} is not told of {call}"))
 }
 
 /// What `options` tells of a table with a fault: nothing may be printed, and an old file of this name must
@@ -148,5 +152,15 @@ pub fn told_of_options(name: &str, fault: &str, table: &str) -> String {
     let error = String::from_utf8(output.stderr).unwrap();
     assert_eq!(fails(fault, &words[..2]), error);
     let told = error.strip_prefix(&format!("market-risk: {table}: "));
+    told.unwrap().trim_end().to_string()
+}
+
+/// What `least-trade` tells of a book with a fault: nothing may be printed.
+pub fn told_of_trade(fault: &str, book: &str, asked: &str) -> String {
+    let output = run(fault, &least_trade(book, asked));
+    assert!(output.stdout.is_empty(), "{fault}");
+    assert_eq!(output.status.code(), Some(1), "{fault}");
+    let error = String::from_utf8(output.stderr).unwrap();
+    let told = error.strip_prefix(&format!("market-risk: {book}: "));
     told.unwrap().trim_end().to_string()
 }

@@ -35,7 +35,7 @@ fn options_of(name: &str) -> Option<Vec<OptionRow>> {
 }
 
 /// What is printed of a sample: its report, this with the charges of the currencies, the
-/// charges of a small bank, or the ladder of one group; of an option table what options cost.
+/// charges of a small bank, the ladder of one group, or a least trade; of an option table what options cost.
 #[derive(Clone, Copy)]
 pub enum Print {
     Options,
@@ -44,7 +44,17 @@ pub enum Print {
     SmallBank,
     Currency(usize),
     Commodity(usize),
+    LeastTrade,
 }
+
+/// The sample with a least trade, and what is asked of it.
+const TRADED: &str = "zones";
+const TRADE: again::Short = again::Short {
+    group: 7,
+    days: 900,
+    coupon: 800,
+    limit: 420_000,
+};
 
 /// All prints of a sample: the report, the currencies where there are several, the charges of a
 /// small bank where it could be one's book, and the ladder of every group that it has, or of
@@ -88,6 +98,7 @@ impl Stored {
             Print::SmallBank => "small-bank".into(),
             Print::Currency(group) => format!("currency-{group}"),
             Print::Commodity(group) => format!("commodity-{group}"),
+            Print::LeastTrade => "least-trade".into(),
         };
         format!("{}{table}.{print}", self.sample)
     }
@@ -114,7 +125,12 @@ impl Stored {
             Print::SmallBank => vec!["small-bank", &file],
             Print::Currency(_) => vec!["ladder", &file, "--currency", &group],
             Print::Commodity(_) => vec!["ladder", &file, "--commodity", &group],
+            Print::LeastTrade => vec!["least-trade", &file],
         };
+        let asked = TRADE.options();
+        if let Print::LeastTrade = self.print {
+            words.extend(asked.split(' '));
+        }
         let table = format!("{}.table", self.sample);
         if self.table.is_some() {
             words.extend(["--table", &table]);
@@ -135,6 +151,7 @@ impl Stored {
             Print::SmallBank => again::small_bank(&self.book),
             Print::Currency(group) => again::interest(&self.book, table, group),
             Print::Commodity(group) => again::commodity(&self.book, group),
+            Print::LeastTrade => again::least_trade(&self.book, table, &TRADE),
         };
         [note.unwrap_or_default(), figures].concat()
     }
@@ -177,6 +194,7 @@ pub fn all() -> Vec<Stored> {
                 .into_iter()
                 .map(|print| stored(None, print)),
         );
+        all.extend((sample == TRADED).then(|| stored(None, Print::LeastTrade)));
         if let Some(table) = table_of(&sample) {
             let prints = prints_of(&book).into_iter();
             let prints = prints.filter(|print| !matches!(print, Print::Commodity(_)));

@@ -1,5 +1,6 @@
 //! Options with a wrong reading, put in on purpose; all other calls are the second calculation's.
 
+use super::super::trade::answer;
 use super::readings::Wrong;
 use crate::calls::{Calls, Second};
 use books::options::OptionRow;
@@ -133,6 +134,18 @@ impl Calls for Misread {
         let ([number, row], figures) = self.wrong.answer(table, out);
         result[..3].copy_from_slice(&[number, row, 0]);
         result[3..].copy_from_slice(&figures);
+    }
+    fn least_trade(
+        &self,
+        book: &[u8],
+        table: &[u8],
+        group: usize,
+        band: usize,
+        side: usize,
+        limit: u64,
+        out: &mut [u64; 5],
+    ) {
+        *out = answer(book, table, [group, band, side], limit);
     }
     fn table(&self, out: &mut [u8; 36]) {
         Second.table(out);

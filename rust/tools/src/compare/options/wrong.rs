@@ -3,6 +3,7 @@
 use super::super::asked::Asked;
 use super::super::case::Case;
 use super::super::run::Run;
+use super::super::trade::Trade;
 use super::misread::Misread;
 use super::readings::Wrong;
 use super::OptionTables;
@@ -31,6 +32,7 @@ pub fn alone(seed: u64, number: u64) -> Case {
             room: 8,
         },
         options: OptionTables::of_case(seed, number),
+        trade: Trade::default(),
         order: 0,
     }
 }

@@ -9,19 +9,13 @@ use books::Row;
 use market_risk::{InterestLadder, Table};
 
 /// The weighted longs and the weighted shorts of a currency's rows.
-fn sides(rows: &[Row], group: u64, table: &Table) -> Sides {
+fn of_rows(rows: &[Row], group: u64, table: &Table) -> (i128, i128) {
     let own = rows.iter().filter(|row| u64::from(row.group) == group);
     let weights = table.weights().map(i128::from);
     let weight = |row: &Row| weights[band(column(row), row.days)];
-    Sides {
-        long: own
-            .clone()
-            .map(|row| weight(row) * i128::from(row.long))
-            .sum(),
-        short: own.map(|row| weight(row) * i128::from(row.short)).sum(),
-        names: ["weighted long", "weighted short"],
-        print: weighted,
-    }
+    let longs = own.clone().map(|row| weight(row) * i128::from(row.long));
+    let shorts = own.map(|row| weight(row) * i128::from(row.short));
+    (longs.sum(), shorts.sum())
 }
 
 /// The seven match sums together.
@@ -34,8 +28,18 @@ fn matched(ladder: &InterestLadder) -> i128 {
 /// The lines of a currency: gross by the matches and by the rows, the residual by the rows,
 /// and the two bounds of the charge.
 pub fn interest(rows: &[Row], group: u64, table: &Table, ladder: &InterestLadder) -> Vec<Line> {
+    interest_of(of_rows(rows, group, table), ladder)
+}
+
+/// The same lines by weighted longs and weighted shorts, wherever they come from.
+pub fn interest_of((long, short): (i128, i128), ladder: &InterestLadder) -> Vec<Line> {
     let [gross, residual, charge] = [ladder.gross, ladder.residual, ladder.charge].map(i128::from);
-    let all = sides(rows, group, table);
+    let all = Sides {
+        long,
+        short,
+        names: ["weighted long", "weighted short"],
+        print: weighted,
+    };
     let position = |value: i128| (value, weighted(value));
     let in_mils = |value: i128| (value, mils(value));
     let matched = by_matches(matched(ladder), residual, weighted);

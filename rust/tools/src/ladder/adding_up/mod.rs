@@ -9,7 +9,7 @@ use crate::lines::Shown;
 
 pub use crate::lines::{broken, show, Line};
 pub use commodity::commodity;
-pub use interest::interest;
+pub use interest::{interest, interest_of};
 
 /// The longs and the shorts of the rows of one ladder, what they are called and how they are
 /// printed.

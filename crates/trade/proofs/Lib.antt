@@ -1,0 +1,5 @@
+-- Laws of the search for the least amount.
+pub mod Searching
+pub mod Opening
+pub mod Halving
+pub mod Outcome

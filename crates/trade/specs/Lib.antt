@@ -1,0 +1,3 @@
+-- The least trade that brings a currency within a limit.
+pub mod Trade
+pub mod Inner
