@@ -1,5 +1,5 @@
 -- What is claimed: the accepted books and their parts, joining, order and mirror, the charge of each currency, netting, offsetting, the two in one call, the
--- shortest file that shows a refusal, the dearest book, options; the books worked by hand, and facts of document 01.
+-- shortest file that shows a refusal, the dearest book, options, the least trade; the books worked by hand, and facts of document 01.
 pub mod Zones
 pub mod Orders
 pub mod Demands

@@ -1,16 +1,16 @@
 -- Bands that agree where a ladder looks give the same figures: the code's tables hold the bands of the rows up to the last band.
 -- Assumes nothing.
 use Prim.Native.Nat.{ℕ, zero, suc, _+_, _≤_, _<_}
-use mathlib.Core.Path.{_≡_, refl, sym, ap, ap₂, _∙_}
+use mathlib.Core.Path.{_≡_, refl, sym, ap, _∙_}
 use native.Mathlib.Omega.{arith}
-use Rattle.ladder.specs.Position.{Position, Bands, gross, matched, net, total, vertical}
+use Rattle.ladder.specs.Position.{Position, Bands, gross, net, total}
 use Rattle.sums.specs.Sums.{span}
 use Rattle.ladder.specs.Table.{Percents}
 use Rattle.ladder.specs.Interest.{zones, matches, interestFigures}
 use Rattle.ladder.specs.Commodity.{Carried, nothing, toBand, carry, carryFigures, commodityFigures}
 use Rattle.ladder.specs.Nets.{absoluteNets, shorthand, simplified}
 use Rattle.ladder.specs.Inner.Steps.{zoneOf}
-use Rattle.ladder.proofs.Gathering.{same-zone, matches-combined}
+use Rattle.ladder.proofs.Gathering.{zone-same, matches-combined}
 
 -- two ladders agree below band n
 pub record Agree (n : ℕ) (f g : Bands) : Type 0 where
@@ -25,15 +25,8 @@ module _ {n : ℕ} {f g : Bands} (agree : Agree n f g) where
   pub gross-agree : gross (total f (span 0 n)) ≡ gross (total g (span 0 n))
   gross-agree = ap gross (total-agree (λ a. a) 0 n (omega arith))
 
-  vertical-agree : (start many : ℕ) → start + many ≤ n → vertical f (span start many) ≡ vertical g (span start many)
-  unfolding vertical span
-  vertical-agree start zero h = refl
-  vertical-agree start (suc many) h = ap₂ _+_ (ap matched (agree .below start (omega arith))) (vertical-agree (suc start) many (omega arith))
-
   zone-agree : (start many : ℕ) → start + many ≤ n → zoneOf f (span start many) ≡ zoneOf g (span start many)
-  unfolding zoneOf
-  zone-agree start many h =
-      same-zone (ap gross (total-agree (λ a. a) start many h)) (vertical-agree start many h) (total-agree net start many h)
+  zone-agree start many h = zone-same f g start many (λ k low high. agree .below k (omega arith))
 
   carry-agree : (s : Carried) (start many : ℕ) → start + many ≤ n → carry s f (span start many) ≡ carry s g (span start many)
   unfolding carry span

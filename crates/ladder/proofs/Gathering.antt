@@ -1,7 +1,7 @@
 -- The ladders as the code makes them: band by band, and then whole.
 -- Assumes nothing.
-use Prim.Native.Nat.{ℕ, suc, _+_, _*_, _≤_, _<_, max}
-use mathlib.Core.Path.{_≡_, refl, sym, ap}
+use Prim.Native.Nat.{ℕ, zero, suc, _+_, _*_, _≤_, _<_, max}
+use mathlib.Core.Path.{_≡_, refl, sym, ap, ap₂, _∙_}
 use mathlib.Core.List.{List, _∷_}
 use native.Mathlib.Nat.{zero-add}
 use native.Mathlib.Numerals.{add-one}
@@ -13,7 +13,7 @@ use Rattle.ladder.specs.Interest.{Matches, InterestFigures, Zones, match
 use Rattle.ladder.specs.Commodity.{Carried, nothing, toBand, carry, carryFigures, commodityBands}
 use Rattle.ladder.specs.Nets.{absoluteNets, shorthand}
 use Rattle.ladder.specs.Inner.Steps.{PositionStep, Zone, Gathered, NetStep, ZoneOf, ZoneWith, GatheredOf, Summed, InterestOf, CommodityOf, NetsOf, limit, commodityLimit, netStep, bandStep, carriedStep, zonesStep, zoneOf, zoneWith, gatheredGross, gatheredFigures, combined}
-use Rattle.ladder.proofs.Matching.{takes-matched, takes-gross}
+use Rattle.ladder.proofs.Matching.{same-position, takes-matched, takes-gross}
 use Rattle.ladder.proofs.Across.{unopposed-net, crossing-adds-up}
 use Rattle.ladder.proofs.Totals.{total-last, vertical-last, fewer-within}
 use Rattle.ladder.proofs.AddsUp.{three-grosses, three-verticals, charge-within}
@@ -23,6 +23,20 @@ use Rattle.ladder.proofs.Carrying.{carry-last, carry-gross, commodity-w
 -- two zones with the same sums are equal
 pub same-zone : {a b : Zone} → a .gross ≡ b .gross → a .vertical ≡ b .vertical → a .nets ≡ b .nets → a ≡ b
 same-zone p q r = λ i. record { gross = p i; vertical = q i; nets = r i }
+
+-- its first band and the others
+pub zone-cons : (f : Bands) (k : ℕ) (zone : List ℕ) → zoneOf f (k ∷ zone) ≡ zoneWith (zoneOf f zone) (f k)
+unfolding zoneOf zoneWith total vertical
+zone-cons f k zone = same-zone (omega arith) (omega arith) (same-position (omega arith) (omega arith))
+
+-- a zone is by its bands alone
+pub zone-same : (f g : Bands) (start n : ℕ) → ((k : ℕ) → start ≤ k → k < start + n → f k ≡ g k) → zoneOf f (span start n) ≡ zoneOf g (span start n)
+unfolding span zoneOf total vertical
+zone-same f g start zero same = refl
+zone-same f g start (suc n) same =
+    zone-cons f start (span (suc start) n)
+    ∙ ap₂ zoneWith (zone-same f g (suc start) n (λ k low high. same k (omega arith) (omega arith))) (same start (omega arith) (omega arith))
+    ∙ sym (zone-cons g start (span (suc start) n))
 
 -- ---- a zone, band by band: what its first n bands sum to
 pub record GatheredTo (f : Bands) (start n : ℕ) (z : Zone) : Type 0 where

@@ -22,13 +22,13 @@ pub times≤ : (k y z : ℕ) {x : ℕ} → x ≤ y + z → k * x ≤ k * y + k *
 times≤ k y z h = omega (arith, mul-le-mul-left k h)
 
 -- a larger per cent of x is a smaller one and the difference
-pub split : {small large : ℕ} (x : ℕ) → small ≤ large → large * x ≡ small * x + (large - small) * x
+split : {small large : ℕ} (x : ℕ) → small ≤ large → large * x ≡ small * x + (large - small) * x
 split {small} {large} x h =
     let parts : large ≡ small + (large - small) = omega arith in
     omega (arith, ap (λ (n : ℕ). n * x) parts)
 
 -- ---- a zone, with the per cents of its bands, of the zone, and across zones
-pub zoneCost : (bands zonal across : ℕ) → Bands → List ℕ → ℕ
+zoneCost : (bands zonal across : ℕ) → Bands → List ℕ → ℕ
 zoneCost bands zonal across f zone =
     bands * gross (total f zone) + (zonal - bands) * gross (bandNets f zone) + (across - zonal) * absoluteNet (total f zone)
 
@@ -114,7 +114,7 @@ empty-net : (f : Bands) (zone : List ℕ) → gross (total f zone) ≡ 0 → gro
 empty-net f zone none = omega (arith, ap gross (zone-net f zone), takes-gross (takes-matched (total f zone)))
 
 module _ (z : Zones) (f g : Bands) where
-  pub residual-joined : (matches z (f ⊞ g)) .residual ≤ (matches z f) .residual + (matches z g) .residual
+  residual-joined : (matches z (f ⊞ g)) .residual ≤ (matches z f) .residual + (matches z g) .residual
   residual-joined =
       rw (residual-is-whole-net z (f ⊞ g), residual-is-whole-net z f, residual-is-whole-net z g) (absoluteNet-total-joined f g (allBands z))
 

@@ -3,27 +3,23 @@
 use Prim.Native.Nat.{ℕ, zero, suc, _+_, _≤_, _<_}
 use mathlib.Core.Path.{_≡_, refl, sym, ap, ap₂, subst, _∙_}
 use mathlib.Core.Bool.{Bool, true, false}
-use mathlib.Core.List.{List, _∷_}
+use mathlib.Core.List.{_∷_}
 use native.Mathlib.Decide.{ℕ-discrete}
 use native.Mathlib.Numerals.{lt-of-le-of-ne}
 use native.Mathlib.Omega.{arith}
 use borrow.Author.Tests.{ltb-true, ltb-false, lt-ltb, le-ltb, eq-eqb, ne-eqb}
 use lib.Dec.{ltb}
 use Rattle.sums.specs.Sums.{span}
-use Rattle.ladder.specs.Position.{Position, Bands, _⊕_, empty, matched, net, total, vertical, atBand}
+use Rattle.ladder.specs.Position.{Position, Bands, _⊕_, empty, matched, net, atBand}
 use Rattle.ladder.specs.Table.{Percents}
 use Rattle.ladder.specs.Interest.{Matches, charge, zones, interestFigures}
 use Rattle.ladder.specs.Inner.Steps.{Zone, Gathered, ZoneOf, ZoneWith, GatheredOf, Summed, CanGather, zoneOf, zoneWith, gatheredWith, gatheredFigures}
 use Rattle.ladder.proofs.Matching.{same-position, empty-plus}
 use Rattle.ladder.proofs.Totals.{_⊞_}
-use Rattle.ladder.proofs.Gathering.{same-zone, matches-combined}
+use Rattle.ladder.proofs.Gathering.{same-zone, zone-cons, zone-same, matches-combined}
 use Rattle.ladder.proofs.Agreeing.{Agree}
 
 -- ---- one zone
-zone-cons : (f : Bands) (k : ℕ) (zone : List ℕ) → zoneOf f (k ∷ zone) ≡ zoneWith (zoneOf f zone) (f k)
-unfolding zoneOf zoneWith total vertical
-zone-cons f k zone = same-zone (omega arith) (omega arith) (same-position (omega arith) (omega arith))
-
 zone-swap : (z : Zone) (a b : Position) → zoneWith (zoneWith z a) b ≡ zoneWith (zoneWith z b) a
 unfolding zoneWith
 zone-swap z a b = same-zone (omega arith) (omega arith) (same-position (omega arith) (omega arith))
@@ -31,15 +27,6 @@ zone-swap z a b = same-zone (omega arith) (omega arith) (same-position (omega ar
 zone-empty : (z : Zone) → zoneWith z empty ≡ z
 unfolding zoneWith matched net
 zone-empty z = same-zone (omega arith) (omega arith) (same-position (omega arith) (omega arith))
-
--- a zone is by its bands alone
-zone-same : (f g : Bands) (start n : ℕ) → ((k : ℕ) → start ≤ k → k < start + n → f k ≡ g k) → zoneOf f (span start n) ≡ zoneOf g (span start n)
-unfolding span zoneOf total vertical
-zone-same f g start zero same = refl
-zone-same f g start (suc n) same =
-    zone-cons f start (span (suc start) n)
-    ∙ ap₂ zoneWith (zone-same f g (suc start) n (λ k low high. same k (omega arith) (omega arith))) (same start (omega arith) (omega arith))
-    ∙ sym (zone-cons g start (span (suc start) n))
 
 -- a position at one band, of which there was nothing
 module _ (f : Bands) (band : ℕ) (position : Position) where
@@ -49,14 +36,14 @@ module _ (f : Bands) (band : ℕ) (position : Position) where
   other-band : (k : ℕ) → (band ≡ k → ⊥) → more k ≡ f k
   other-band k other = rw (ne-eqb band k other) (same-position (omega arith) (omega arith))
 
-  pub zone-beside : (start n : ℕ) → ((k : ℕ) → start ≤ k → k < start + n → band ≡ k → ⊥) → zoneOf more (span start n) ≡ zoneOf f (span start n)
+  zone-beside : (start n : ℕ) → ((k : ℕ) → start ≤ k → k < start + n → band ≡ k → ⊥) → zoneOf more (span start n) ≡ zoneOf f (span start n)
   zone-beside start n apart = zone-same more f start n (λ k low high. other-band k (apart k low high))
 
   module _ (none : f band ≡ empty) where
     own-band : more band ≡ position
     own-band = rw (none, eq-eqb band band refl) (empty-plus position)
 
-    pub zone-within : (start n : ℕ) → start ≤ band → band < start + n → zoneOf more (span start n) ≡ zoneWith (zoneOf f (span start n)) position
+    zone-within : (start n : ℕ) → start ≤ band → band < start + n → zoneOf more (span start n) ≡ zoneWith (zoneOf f (span start n)) position
     unfolding span
     zone-within start zero low high = let never : ⊥ = omega arith in absurd never
     zone-within start (suc n) low high = go (ℕ-discrete band start) (λ h. zone-within (suc start) n h (omega arith))

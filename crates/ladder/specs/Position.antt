@@ -35,7 +35,7 @@ absoluteNet a = gross (net a)
 abbrev pub Bands : Type 0
 Bands = ℕ → Position
 
--- a position in one band alone
+-- a position in one band alone (P13)
 abbrev pub atBand : ℕ → Position → Bands
 atBand band position = λ k. cond (eqb band k) position empty
 

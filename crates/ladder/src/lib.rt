@@ -1,9 +1,9 @@
 // The ladders of one group, and charges on nets: longs against shorts. Knows no file.
 pub mod bands;
 pub mod positions;
+pub mod whole;
 pub mod zones;
 
-use crate::bands::Zone;
 use crate::positions::Position;
 use crate::zones::Matches;
 ghost use mathlib.Core.Path.{_≡_};
@@ -16,7 +16,7 @@ ghost use Rattle.ladder.specs.Table.{AcceptedPercents};
 ghost use Rattle.ladder.specs.Interest.{charge, allBands, zones};
 ghost use Rattle.ladder.specs.Commodity.{commodityBands};
 ghost use Rattle.ladder.specs.Nets.{absoluteNets, shorthand, simplified};
-ghost use Rattle.ladder.specs.Inner.Steps.{limit, commodityLimit, bands, GatheredOf, CanGather, Summed, gatheredWith, gatheredFigures, InterestOf, CommodityOf, NetsOf};
+ghost use Rattle.ladder.specs.Inner.Steps.{limit, commodityLimit, bands, InterestOf, CommodityOf, NetsOf};
 
 // The bands of a ladder: in interest, and in commodities.
 pub const BANDS: usize = 15;
@@ -78,78 +78,13 @@ impl Percents {
     }
 }
 
-// The three zones of an interest ladder, the bands of each gathered.
-pub struct Gathered {
-    pub first: Zone,
-    pub second: Zone,
-    pub third: Zone,
-}
-
-// The zones of a ladder, from the weighted longs and shorts of its bands.
-pub fn gather(longs: &[u64; BANDS], shorts: &[u64; BANDS]) -> Gathered
-    requires { ⌜ gross (total (bands (now longs) (now shorts)) (allBands zones)) ≤ limit ⌝ }
-    ensures { λ r. ⌜ GatheredOf (bands (now (longs .entry)) (now (shorts .entry))) r ⌝ }
-{
-    let first = bands::zone_of(longs, shorts, 0, 4);
-    let second = bands::zone_of(longs, shorts, 4, 3);
-    let third = bands::zone_of(longs, shorts, 7, 8);
-    Gathered {
-        first,
-        second,
-        third,
-    }
-}
-
-impl Gathered {
-    // A position more in one band, of which these zones have nothing yet.
-    pub fn with_band(self, band: usize, position: Position) -> Gathered
-        requires { ⌜ CanGather self position ⌝ }
-        ensures { λ r. ⌜ (r ≡ gatheredWith self band position) × Summed r ⌝ }
-    {
-        let first = self.first;
-        let second = self.second;
-        let third = self.third;
-        if band < 4 {
-            return Gathered {
-                first: first.with_band(position),
-                second,
-                third,
-            };
-        }
-        if band < 7 {
-            return Gathered {
-                first,
-                second: second.with_band(position),
-                third,
-            };
-        }
-        Gathered {
-            first,
-            second,
-            third: third.with_band(position),
-        }
-    }
-
-    // The figures of the ladder: each zone within itself, the zones against one another, and the charge.
-    pub fn figures(self, percents: Percents) -> InterestFigures
-        requires { ⌜ AcceptedPercents percents × Summed self ⌝ }
-        ensures { λ r. ⌜ r ≡ gatheredFigures percents self ⌝ }
-    {
-        let matches = zones::combine(self.first, self.second, self.third);
-        InterestFigures {
-            matches,
-            charge: percents.charge(matches),
-        }
-    }
-}
-
 // The interest ladder of one currency, from the weighted longs and shorts of its bands.
 pub fn interest(longs: &[u64; BANDS], shorts: &[u64; BANDS], percents: Percents) -> InterestFigures
     requires { ⌜ AcceptedPercents percents ⌝ }
     requires { ⌜ gross (total (bands (now longs) (now shorts)) (allBands zones)) ≤ limit ⌝ }
     ensures { λ r. ⌜ InterestOf percents (bands (now (longs .entry)) (now (shorts .entry))) r ⌝ }
 {
-    gather(longs, shorts).figures(percents)
+    whole::gather(longs, shorts).figures(percents)
 }
 
 // The ladder of one commodity, from the longs and shorts of its bands: from the nearest, the whole net goes to the next.

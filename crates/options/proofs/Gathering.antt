@@ -93,7 +93,7 @@ module _ (amount : OptionRow → ℕ) (most class : ℕ) where
 
   -- ---- the sums are the definition's
   module _ {many : ℕ} {options : List OptionRow} {bought sold : List ℕ} (all : Gathered amount most class many options bought sold) where
-    pub sides-read : Agree groupCount (bands bought sold) (sidesIn amount class options)
+    sides-read : Agree groupCount (bands bought sold) (sidesIn amount class options)
     unfolding sidesIn
     sides-read =
         record {
@@ -101,7 +101,7 @@ module _ (amount : OptionRow → ℕ) (most class : ℕ) where
               (same-position (tallied groupOf (boughtIn amount class) groupCount options k h) (tallied groupOf (soldIn amount class) groupCount options k h));
         }
 
-    pub halves-read : sumOf (λ group. halfExcess (getD bought group 0) (getD sold group 0)) groups ≡ sumOf (λ group. halfShort (sidesIn amount class options group)) groups
+    halves-read : sumOf (λ group. halfExcess (getD bought group 0) (getD sold group 0)) groups ≡ sumOf (λ group. halfShort (sidesIn amount class options group)) groups
     halves-read = sum-same _ _ groupCount (λ k h. ap halfShort (sides-read .below k h))
 
     pub sized-bought : length bought ≡ groupCount

@@ -16,7 +16,7 @@ use Rattle.options.specs.Refusals.{mostOptions, lengthRefused, sortAllow
 use Rattle.options.specs.Accepted.{Allowed, AcceptedOptions}
 
 -- ---- a row
-pub in-ranges : (option : OptionRow) → allowed option ≡ true → Allowed option
+in-ranges : (option : OptionRow) → allowed option ≡ true → Allowed option
 unfolding allowed sortAllowed sizeAllowed
 in-ranges option e =
     let parts = both _ _ e in
@@ -41,7 +41,7 @@ in-ranges option e =
       delta = leb-true _ _ (sizes .1);
     }
 
-pub ranges-in : (option : OptionRow) → Allowed option → allowed option ≡ true
+ranges-in : (option : OptionRow) → Allowed option → allowed option ≡ true
 unfolding allowed sortAllowed sizeAllowed
 ranges-in option ok =
     simp (
@@ -58,7 +58,7 @@ ranges-in option ok =
     )
 
 -- ---- all rows
-pub none-outside : (row : ℕ) (options : List OptionRow) → firstOutside row options .number ≡ 0 → Every Allowed options
+none-outside : (row : ℕ) (options : List OptionRow) → firstOutside row options .number ≡ 0 → Every Allowed options
 unfolding firstOutside refused
 none-outside row [] e = none
 none-outside row (option ∷ options) e = go (none-outside (suc row) options) (allowed option) refl e

@@ -33,7 +33,7 @@ not-floating : (class kind : ℕ) → 2 ≤ class → floating class kind ≡ fa
 unfolding floating
 not-floating class kind from = simp (ne-eqb class 1 (λ e. omega arith))
 
-pub leg-clean : (option : OptionRow) → Allowed option → 1 ≤ option .delta → Clean (option .class) (deltaLeg option .row)
+leg-clean : (option : OptionRow) → Allowed option → 1 ≤ option .delta → Clean (option .class) (deltaLeg option .row)
 unfolding deltaLeg
 leg-clean option ok some =
     let amount = deltaAmount option in
@@ -72,7 +72,7 @@ legs-clean (also {a} {rest} ok later) = go (eqb (a .delta) 0) refl (legs-clean l
 abbrev pub rowsFor : OptionRow → ℕ
 rowsFor option = cond (eqb (option .delta) 0) 0 1
 
-pub legs-many : (options : List OptionRow) → length (deltaLegs options) ≡ sumOf rowsFor options
+legs-many : (options : List OptionRow) → length (deltaLegs options) ≡ sumOf rowsFor options
 unfolding deltaLegs sumOf
 legs-many [] = refl
 legs-many (option ∷ options) = go (eqb (option .delta) 0) (legs-many options)

@@ -1,13 +1,11 @@
--- A currency's ladder with one band open: with what stood there put back it is the ladder again, nothing wraps, and its charge falls by no more than the
--- ladder's law says.
+-- A currency's ladder with one band open: with what stood there put back it is the ladder again, nothing wraps, and its charge falls up to the turn and rises
+-- after it.
 -- Assumes nothing.
 use mathlib.Core.Path.{_≡_, refl, sym, ap, subst, _∙_}
-use mathlib.Core.Bool.{Bool, true, false, cond}
 use mathlib.Core.List.{List, [], _∷_}
 use Prim.Native.Nat.{ℕ, zero, suc, _+_, _-_, _*_, _≤_, _<_}
 use native.Mathlib.Nat.{mul-le-mul-left, mul-le-mul-right}
 use native.Mathlib.Omega.{arith}
-use lib.Dec.{eqb}
 use lib.ListN.{getD, set}
 use lib.Seq.{getD-set-other}
 use Rattle.sums.specs.Sums.{span}
@@ -18,9 +16,9 @@ use Rattle.ladder.specs.declared.Table.{Table}
 use Rattle.ladder.specs.Position.{Bands, _⊕_, empty, gross, net, absoluteNet, total, vertical, bandNets, atBand}
 use Rattle.ladder.specs.Table.{mostWeight, weightIn}
 use Rattle.ladder.specs.Interest.{allBands, zones, interestFigures}
-use Rattle.ladder.specs.declared.Gathered.{Gathered}
+use Rattle.ladder.specs.declared.whole.Gathered.{Gathered}
 use Rattle.ladder.specs.Inner.Steps.{GatheredOf, limit, bands, bandCount}
-use Rattle.ladder.proofs.Matching.{Takes, same-position, plus-assoc, net-sides}
+use Rattle.ladder.proofs.Matching.{Takes, same-position, plus-assoc}
 use Rattle.ladder.proofs.Totals.{_⊞_, takes-vertical, total-append, total-joined, band-within}
 use Rattle.ladder.proofs.AddsUp.{chargeOf, three-grosses}
 use Rattle.ladder.proofs.Gathering.{gathered-summed}
@@ -31,62 +29,7 @@ use Rattle.ladder.proofs.Turning.{total-at, band-lowers, band-raises}
 use Rattle.charges.specs.Inner.Tables.{mostGross, bandsFrom, weightedFrom}
 use Rattle.trade.specs.Trade.{onSide, mostTrade}
 use Rattle.trade.specs.Inner.Searching.{Open, OpenOf, CanOpen, openCharge, openNets, excessIn, excessOf}
-
--- ---- a side
-side-plus : (side m n : ℕ) → onSide side m ⊕ onSide side n ≡ onSide side (m + n)
-side-plus side m n = go (eqb side 0)
-  where
-    go : (long : Bool) → cond long (record { long = m; short = 0 }) (record { long = 0; short = m }) ⊕ cond long (record { long = n; short = 0 }) (record { long = 0; short = n })
-        ≡ cond long (record { long = m + n; short = 0 }) (record { long = 0; short = m + n })
-    go true = refl
-    go false = refl
-
-side-gross : (side n : ℕ) → gross (onSide side n) ≡ n
-side-gross side n = go (eqb side 0)
-  where
-    go : (long : Bool) → gross (cond long (record { long = n; short = 0 }) (record { long = 0; short = n })) ≡ n
-    go true = omega arith
-    go false = omega arith
-
-side-one : (side n : ℕ) → absoluteNet (onSide side n) ≡ gross (onSide side n)
-side-one side n = go (eqb side 0)
-  where
-    go : (long : Bool) → absoluteNet (cond long (record { long = n; short = 0 }) (record { long = 0; short = n })) ≡ gross (cond long (record { long = n; short = 0 }) (record { long = 0; short = n }))
-    go true = omega (arith, net-sides (record { long = n; short = 0 }))
-    go false = omega (arith, net-sides (record { long = 0; short = n }))
-
--- adding to a side lowers the whole net until the excess of the other is made up, and then raises it
-module _ (side : ℕ) (whole : Position) (m n : ℕ) where
-  side-less : m + n ≤ excessIn side whole → absoluteNet (whole ⊕ onSide side (m + n)) + n ≤ absoluteNet (whole ⊕ onSide side m)
-  unfolding excessIn
-  side-less = go (eqb side 0)
-    where
-      on : Bool → ℕ → Position
-      on long n = cond long (record { long = n; short = 0 }) (record { long = 0; short = n })
-
-      go : (long : Bool) → m + n ≤ cond long (whole .short - whole .long) (whole .long - whole .short) → absoluteNet (whole ⊕ on long (m + n)) + n ≤ absoluteNet (whole ⊕ on long m)
-      go true h = omega (arith, net-sides (whole ⊕ on true (m + n)), net-sides (whole ⊕ on true m))
-      go false h = omega (arith, net-sides (whole ⊕ on false (m + n)), net-sides (whole ⊕ on false m))
-
-  side-more : excessIn side whole ≤ m → absoluteNet (whole ⊕ onSide side m) + n ≤ absoluteNet (whole ⊕ onSide side (m + n))
-  unfolding excessIn
-  side-more = go (eqb side 0)
-    where
-      on : Bool → ℕ → Position
-      on long n = cond long (record { long = n; short = 0 }) (record { long = 0; short = n })
-
-      go : (long : Bool) → cond long (whole .short - whole .long) (whole .long - whole .short) ≤ m → absoluteNet (whole ⊕ on long m) + n ≤ absoluteNet (whole ⊕ on long (m + n))
-      go true h = omega (arith, net-sides (whole ⊕ on true (m + n)), net-sides (whole ⊕ on true m))
-      go false h = omega (arith, net-sides (whole ⊕ on false (m + n)), net-sides (whole ⊕ on false m))
-
--- the excess is the net's, whatever is matched
-excess-taken : (side : ℕ) {m : ℕ} {a b : Position} → Takes m a b → excessIn side a ≡ excessIn side b
-unfolding excessIn
-excess-taken side {m} {a} {b} t = go (eqb side 0)
-  where
-    go : (long : Bool) → cond long (a .short - a .long) (a .long - a .short) ≡ cond long (b .short - b .long) (b .long - b .short)
-    go true = omega (arith, t)
-    go false = omega (arith, t)
+use Rattle.trade.proofs.Sides.{side-plus, side-gross, side-one, side-less, side-more, excess-taken}
 
 -- ---- an array with one entry cleared
 cleared : (list : List ℕ) (k : ℕ) → getD (set list k 0) k 0 ≡ 0
@@ -95,7 +38,7 @@ cleared (n ∷ list) zero = refl
 cleared (n ∷ list) (suc k) = cleared list k
 
 -- ---- the ladder
-module _ (table : Table) (longs shorts : List ℕ) (band side : ℕ) (can : CanOpen table longs shorts band side) where
+module _ (table : Table) (longs shorts : List ℕ) (band : ℕ) (can : CanOpen table longs shorts band) where
   -- the weighted bands
   abbrev whole : Bands
   whole = weightedFrom table longs shorts 0
@@ -153,8 +96,8 @@ module _ (table : Table) (longs shorts : List ℕ) (band side : ℕ) (can : CanO
           ap gross (total-at band in-range empty),
         )
 
-    -- the zones of what is left
-    module _ {z : Gathered} (of : GatheredOf others z) where
+    -- the zones of what is left, and the side that is added to
+    module _ (side : ℕ) {z : Gathered} (of : GatheredOf others z) where
       abbrev opened : Open
       opened = record { zones = z; own = own; band = band; side = side; weight = weightIn table band; percents = table .percents }
 

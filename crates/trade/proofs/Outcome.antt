@@ -85,7 +85,7 @@ module _ (table s : List ℕ) (group band side limit : ℕ)
     nothing-before : (loaded .number ≡ 0) × (place ≡ 0)
     nothing-before = neither-first (loaded .number) place (sym is-wrong ∙ given .none-first)
 
-    pub can-open : CanOpen (loaded .table) (sums .longs) (sums .shorts) band side
+    pub can-open : CanOpen (loaded .table) (sums .longs) (sums .shorts) band
     can-open =
         record {
           bounds = loaded-accepted _ _ is-loaded (nothing-before .0);

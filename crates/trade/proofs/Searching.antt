@@ -16,7 +16,7 @@ at amount = record { found = true; amount = amount }
 
 module _ (charge : ℕ → ℕ) (limit : ℕ) where
   -- amounts over the limit are passed over
-  pub passed : (amount more many : ℕ) → ((j : ℕ) → j < more → limit < charge (amount + j))
+  passed : (amount more many : ℕ) → ((j : ℕ) → j < more → limit < charge (amount + j))
       → leastFrom charge limit amount many ≡ leastFrom charge limit (amount + more) (many - more)
   unfolding leastFrom
   passed amount zero many over =

@@ -2,10 +2,11 @@
 use crate::Least;
 use crate::none;
 use ladder::BANDS;
-use ladder::Gathered;
 use ladder::Percents;
 use ladder::Table;
 use ladder::positions::Position;
+use ladder::whole;
+use ladder::whole::Gathered;
 ghost use mathlib.Core.Path.{_≡_};
 ghost use mathlib.Core.Bool.{true};
 ghost use Prim.Native.Nat.{_+_, _-_, _<_, _≤_};
@@ -35,7 +36,7 @@ pub fn open_band(
     band: usize,
     side: usize,
 ) -> Open
-    requires { ⌜ CanOpen table (now longs) (now shorts) band side ⌝ }
+    requires { ⌜ CanOpen table (now longs) (now shorts) band ⌝ }
     ensures { λ r. ⌜ OpenOf table (now (longs .entry)) (now (shorts .entry)) band side r ⌝ }
 {
     let weights = table.weights;
@@ -48,7 +49,7 @@ pub fn open_band(
     };
     open_longs[band] = 0;
     open_shorts[band] = 0;
-    let zones = ladder::gather(&open_longs, &open_shorts);
+    let zones = whole::gather(&open_longs, &open_shorts);
     Open {
         zones,
         own,
@@ -93,6 +94,7 @@ impl Open {
     }
 }
 
+// What is left of a number, or 0.
 fn less(from: u64, off: u64) -> u64
     ensures { λ r. ⌜ r ≡ from - off ⌝ }
 {
@@ -119,8 +121,8 @@ fn turn(opened: Open) -> u64
     let second = zones.second.nets;
     let third = zones.third.nets;
     let own = opened.own;
-    let whole = first.add(second.add(third)).add(own);
-    let amount = excess_in(whole, opened.side) / opened.weight;
+    let net = first.add(second.add(third)).add(own);
+    let amount = excess_in(net, opened.side) / opened.weight;
     if amount < MOST_TRADE {
         amount
     } else {
@@ -137,7 +139,7 @@ fn found(amount: u64) -> Least
     }
 }
 
-// The least amount up to the turn, where nothing is over the limit and the turn within it: the middle of what is left is looked at, again and again.
+// The least amount up to the turn, where 0 is over the limit and the turn within it: what lies between the two is halved, again and again.
 fn up_to(opened: Open, turn: u64, limit: u64) -> Least
     requires { ⌜ Searchable opened × TurnOf opened turn ⌝ }
     requires { ⌜ (limit < openCharge opened 0) × (openCharge opened turn ≤ limit) ⌝ }

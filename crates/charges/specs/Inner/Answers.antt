@@ -36,13 +36,14 @@ pub record LadderRead (s : List ℕ) (first group : ℕ) (r : Checked) : Type 0 
   pub in-range : r .refusal .number ≡ 0 → group ≤ lastGroup
   pub read : r .refusal .number ≡ 0 → ReadOf s r
 
--- the sums of a group for its ladder: the refusal; the sums of its rows, which are clean and at most 4,000, where there is none; else nothing
+-- the sums of a group's rows, which are clean and at most 4,000
 pub record SumsGiven (s : List ℕ) (class first group : ℕ) (longs shorts : List ℕ) : Type 0 where
   pub none-first : first ≡ 0
   pub clean : Every (Clean class) (classRows s class)
   pub few : length (classRows s class) ≤ mostRows
   pub sums : GroupSums class group (classRows s class) longs shorts
 
+-- the refusal of a ladder call, and those sums where there is none; else nothing
 pub record LadderSumsOf (s : List ℕ) (class first group : ℕ) (r : LadderSums) : Type 0 where
   pub is-refusal : r .refusal ≡ ladderRefusal (before first (refusalOf s)) group
   pub given : r .refusal .number ≡ 0 → SumsGiven s class first group (r .longs) (r .shorts)

@@ -12,7 +12,7 @@ use Rattle.ladder.specs.Commodity.{CommodityFigures, commodityFigures, c
 pub use Rattle.ladder.specs.declared.positions.PositionStep.{PositionStep}
 pub use Rattle.ladder.specs.declared.positions.Offset.{Offset}
 pub use Rattle.ladder.specs.declared.bands.Zone.{Zone}
-pub use Rattle.ladder.specs.declared.Gathered.{Gathered}
+pub use Rattle.ladder.specs.declared.whole.Gathered.{Gathered}
 pub use Rattle.ladder.specs.declared.zones.ZonesStep.{ZonesStep}
 
 -- ---- what machine numbers must hold

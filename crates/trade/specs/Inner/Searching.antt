@@ -57,7 +57,7 @@ pub record OpenOf (table : Table) (longs shorts : List ℕ) (band side : ℕ) (o
       ≡ interestFigures (table .percents) (λ k. weightedFrom table longs shorts 0 k ⊕ atBand band (onSide side (weightIn table band * amount)) k) .charge
 
 -- what is asked to open a band
-pub record CanOpen (table : Table) (longs shorts : List ℕ) (band side : ℕ) : Type 0 where
+pub record CanOpen (table : Table) (longs shorts : List ℕ) (band : ℕ) : Type 0 where
   pub bounds : TableBounds table
   pub longs-sized : length longs ≡ bandCount
   pub shorts-sized : length shorts ≡ bandCount

@@ -10,13 +10,13 @@ weighted-bands-requires : tie.Need-weighted-bands-requires
 unfolding weightIn
 weighted-bands-requires c κs =
     let start = c .before .before .before .before in
-    (omega (arith, start .pre .longs-sized), λ k h. omega (arith, each-fits _ _ _ _ _ (start .pre) k h))
+    (omega (arith, start .pre .longs-sized), λ k h. omega (arith, each-fits _ _ _ _ (start .pre) k h))
 
 weighted-bands-requires-2 : tie.Need-weighted-bands-requires-2
 unfolding weightIn
 weighted-bands-requires-2 c κs =
     let start = c .before .before .before .before .before .before .before in
-    (omega (arith, start .pre .shorts-sized), λ k h. omega (arith, each-fits _ _ _ _ _ (start .pre) k h))
+    (omega (arith, start .pre .shorts-sized), λ k h. omega (arith, each-fits _ _ _ _ (start .pre) k h))
 
 gather-requires : tie.Need-gather-requires
 unfolding weightIn
@@ -24,7 +24,7 @@ gather-requires c κs =
     let start = c .before .before .before .before .before .before .before .before .before .before in
     let longs = c .before .before .before .before .before .weighted-bands in
     let shorts = c .before .before .weighted-bands2 in
-    omega (arith, parts-fit _ _ _ _ _ (start .pre) (longs .ensures) (shorts .ensures), whole-fits _ _ _ _ _ (start .pre))
+    omega (arith, parts-fit _ _ _ _ (start .pre) (longs .ensures) (shorts .ensures), whole-fits _ _ _ _ (start .pre))
 
 returns : tie.Need-returns
 unfolding weightIn
@@ -32,7 +32,7 @@ returns c =
     let start = c .before .before .before .before .before .before .before .before .before .before .before in
     let longs = c .before .before .before .before .before .before .weighted-bands in
     let shorts = c .before .before .before .weighted-bands2 in
-    opened-of _ _ _ _ _ (start .pre) (longs .ensures) (shorts .ensures) (c .gather .ensures)
+    opened-of _ _ _ _ (start .pre) (longs .ensures) (shorts .ensures) _ (c .gather .ensures)
 
 pub open-band-spec : {M : Type 1} → statement M
 open-band-spec =

@@ -1,9 +1,9 @@
--- `ladder::Gathered::figures` meets its contract: what the zones match is within their gross.
+-- `ladder::whole::Gathered::figures` meets its contract: what the zones match is within their gross.
 use native.Mathlib.Omega.{arith}
 use borrow.Author.Needs.{needs}
 use Rattle.ladder.proofs.Gathering.{combined-within, figures-in-steps}
-use Rattle.ladder.proofs.Gathered.figures.Statement.{statement}
-use Rattle.ladder.proofs.Gathered.figures.Tie as tie
+use Rattle.ladder.proofs.whole.Gathered.figures.Statement.{statement}
+use Rattle.ladder.proofs.whole.Gathered.figures.Tie as tie
 
 charge-requires : tie.Need-charge-requires
 charge-requires c κs =

@@ -1,11 +1,11 @@
--- `ladder::gather` meets its contract: the bands of the three zones are within those of the ladder.
+-- `ladder::whole::gather` meets its contract: the bands of the three zones are within those of the ladder.
 use native.Mathlib.Omega.{arith}
 use borrow.Author.Needs.{needs}
 use Rattle.ladder.specs.Inner.Steps.{bands}
 use Rattle.ladder.specs.Interest.{zones}
 use Rattle.ladder.proofs.AddsUp.{three-grosses}
-use Rattle.ladder.proofs.gather.Statement.{statement}
-use Rattle.ladder.proofs.gather.Tie as tie
+use Rattle.ladder.proofs.whole.gather.Statement.{statement}
+use Rattle.ladder.proofs.whole.gather.Tie as tie
 
 zone-of-requires : tie.Need-zone-of-requires
 zone-of-requires c κs =

@@ -1,8 +1,8 @@
--- `ladder::Gathered::with_band` meets its contract: the band's zone takes the position, the others stay.
+-- `ladder::whole::Gathered::with_band` meets its contract: the band's zone takes the position, the others stay.
 use borrow.Author.Needs.{needs}
 use Rattle.ladder.proofs.OneBand.{with-first, with-second, with-third}
-use Rattle.ladder.proofs.Gathered.with_band.Statement.{statement}
-use Rattle.ladder.proofs.Gathered.with_band.Tie as tie
+use Rattle.ladder.proofs.whole.Gathered.with_band.Statement.{statement}
+use Rattle.ladder.proofs.whole.Gathered.with_band.Tie as tie
 
 returns : tie.Need-returns
 returns c = with-first _ _ _ (c .before .before .before .before .before .pre) (c .before .if1 .taken) (c .with-band .ensures)
