@@ -23,9 +23,10 @@ pub fn kinds(class: usize) -> &'static [(u8, &'static str)] {
     }
 }
 
-/// The class with this name, 0 to 3.
+/// The class with this name in any case, 0 to 3.
 pub fn class_of(name: &str) -> Option<usize> {
-    CLASS_NAMES.iter().position(|known| *known == name)
+    let is = |known: &&str| known.eq_ignore_ascii_case(name);
+    CLASS_NAMES.iter().position(is)
 }
 
 /// The name of a kind. A kind that the class does not know is its number.
@@ -34,9 +35,10 @@ pub fn kind_name(class: usize, kind: u8) -> String {
     known.map_or_else(|| kind.to_string(), |(_, name)| name.to_string())
 }
 
-/// The kind with this name. A plain number stands only for a kind that has no name.
+/// The kind with this name in any case. A plain number stands only for a kind that has no name.
 pub fn kind_of(class: usize, name: &str) -> Option<u8> {
-    if let Some((number, _)) = kinds(class).iter().find(|(_, known)| *known == name) {
+    let is = |known: &&str| known.eq_ignore_ascii_case(name);
+    if let Some((number, _)) = kinds(class).iter().find(|(_, known)| is(known)) {
         return Some(*number);
     }
     let number = name.parse().ok()?;
@@ -84,8 +86,13 @@ mod tests {
     }
 
     #[test]
-    fn classes_by_name() {
-        assert_eq!(class_of("commodity"), Some(3));
-        assert_eq!(class_of("Commodity"), None);
+    fn names_in_any_case() {
+        assert_eq!(
+            ["commodity", "Commodity", "FX"].map(class_of),
+            [Some(3), Some(3), Some(2)]
+        );
+        assert_eq!(["commodities", "f x", ""].map(class_of), [None; 3]);
+        assert_eq!(kind_of(0, "Floating"), Some(4));
+        assert_eq!(kind_of(2, "NONE"), Some(0));
     }
 }

@@ -119,8 +119,9 @@ impl Opt {
         i64::from(self.pair(2)) * i64::from(self.pair(3))
     }
 
-    /// The amount of the row, rounded up.
+    /// The amount of the row, rounded up. `div_ceil` would compare once more.
     #[inline(always)]
+    #[allow(clippy::manual_div_ceil)]
     pub fn amount(self) -> u64 {
         (self.underlying() * u64::from(self.delta()) + 9_999) / 10_000
     }

@@ -29,8 +29,9 @@ const CELLS: usize = 65_535 / 6 + 2;
 /// A number for each cell.
 type Cells = [u8; CELLS];
 
-/// The cell of some days.
+/// The cell of some days. `div_ceil` would compare once more.
 #[inline(always)]
+#[allow(clippy::manual_div_ceil)]
 pub fn cell(days: u16) -> usize {
     (usize::from(days) + 5) / 6
 }

@@ -1,14 +1,28 @@
 //! The dearest book of some rows and a largest amount.
 
+use crate::book::room;
 use crate::{raw, Refusal};
 
 /// The dearest book: its length, and its total in mils.
 #[derive(Clone, Copy, Debug, Default, PartialEq, Eq)]
+#[non_exhaustive]
 pub struct Dearest {
+    /// The length of the book.
     pub length: usize,
     /// What the book costs under document 01's table, and the most that a book of as many rows of at
     /// most as much can cost.
     pub total: u64,
+}
+
+impl Dearest {
+    /// What a result of [`raw::dearest`] says: the figures, or the refusal.
+    pub fn of(result: &[u64; 5]) -> Result<Dearest, Refusal> {
+        Refusal::of(result)?;
+        Ok(Dearest {
+            length: result[3] as usize,
+            total: result[4],
+        })
+    }
 }
 
 /// Writes the dearest book of so many rows, each of at most `most` thousands, to the front of `out`: no
@@ -19,10 +33,10 @@ pub struct Dearest {
 /// book keep their values; a refused call writes nothing.
 ///
 /// ```
-/// use market_risk::{charge, dearest, Dearest, Table};
+/// use market_risk::{charge, dearest, Table};
 /// let mut out = [7; 42];
-/// let two = Dearest { length: 40, total: 205_000 * 2 * 100 };
-/// assert_eq!(dearest(2, 100, &mut out), Ok(two));
+/// let two = dearest(2, 100, &mut out)?;
+/// assert_eq!((two.length, two.total), (40, 205_000 * 2 * 100));
 /// assert_eq!(out[..8], [2, 0, 0, 0, 0, 0, 0, 0]);
 /// // Other paper, 36,000 (0x8ca0) days, long 100.
 /// assert_eq!(out[8..24], [0, 3, 0xa0, 0x8c, 0, 0, 0, 0, 100, 0, 0, 0, 0, 0, 0, 0]);
@@ -37,11 +51,7 @@ pub struct Dearest {
 pub fn dearest(rows: usize, most: usize, out: &mut [u8]) -> Result<Dearest, Refusal> {
     let mut result = [0; 5];
     raw::dearest(rows, most, out, &mut result);
-    Refusal::of(&result)?;
-    Ok(Dearest {
-        length: result[3] as usize,
-        total: result[4],
-    })
+    Dearest::of(&result)
 }
 
 /// The dearest book, in a buffer of its own, and its total in mils.
@@ -57,7 +67,7 @@ pub fn dearest(rows: usize, most: usize, out: &mut [u8]) -> Result<Dearest, Refu
 /// ```
 pub fn dearest_book(rows: usize, most: usize) -> Result<(Vec<u8>, u64), Refusal> {
     // More rows are refused, with room or without.
-    let mut out = vec![0; 8 + 16 * rows.min(4_000)];
+    let mut out = room(rows.saturating_mul(16).saturating_add(8));
     let done = dearest(rows, most, &mut out)?;
     out.truncate(done.length);
     Ok((out, done.total))

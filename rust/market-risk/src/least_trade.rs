@@ -5,7 +5,9 @@ use crate::{raw, Refusal, Table};
 /// The side of a band that a trade is added to.
 #[derive(Clone, Copy, Debug, PartialEq, Eq)]
 pub enum Side {
+    /// What is owned, or is to be received.
     Long,
+    /// What is owed, or was sold.
     Short,
 }
 

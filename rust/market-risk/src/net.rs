@@ -1,9 +1,11 @@
 //! Netting: the rows of one issue become one.
 
+use crate::book::room;
 use crate::{raw, Refusal};
 
 /// What netting a book came to, with offsetting after it or without.
 #[derive(Clone, Copy, Debug, Default, PartialEq, Eq)]
+#[non_exhaustive]
 pub struct Netted {
     /// The length of the book that is written.
     pub length: usize,
@@ -14,8 +16,8 @@ pub struct Netted {
 }
 
 impl Netted {
-    /// What the entries of a result say.
-    pub(crate) fn of(result: &[u64; 5]) -> Result<Netted, Refusal> {
+    /// What a result of [`raw::net`] or [`raw::net_and_offset`] says: the figures, or the refusal.
+    pub fn of(result: &[u64; 5]) -> Result<Netted, Refusal> {
         Refusal::of(result)?;
         Ok(Netted {
             length: result[3] as usize,
@@ -58,7 +60,7 @@ pub fn net(book: &[u8], out: &mut [u8]) -> Result<Netted, Refusal> {
 /// ```
 pub fn netted(book: &[u8]) -> Result<Vec<u8>, Refusal> {
     // A netted book is never longer than the book.
-    let mut out = vec![0; book.len()];
+    let mut out = room(book.len());
     let netted = net(book, &mut out)?;
     out.truncate(netted.length);
     Ok(out)

@@ -1,5 +1,6 @@
 //! Netting and then offsetting, in one call.
 
+use crate::book::room;
 use crate::{raw, Netted, Refusal};
 
 /// Nets a book, offsets the swap legs of the netted rows, and writes what is left to the front of
@@ -39,7 +40,7 @@ pub fn net_and_offset(book: &[u8], out: &mut [u8]) -> Result<Netted, Refusal> {
 /// ```
 pub fn net_and_offset_book(book: &[u8]) -> Result<Vec<u8>, Refusal> {
     // It is never longer than the book.
-    let mut out = vec![0; book.len()];
+    let mut out = room(book.len());
     let written = net_and_offset(book, &mut out)?;
     out.truncate(written.length);
     Ok(out)

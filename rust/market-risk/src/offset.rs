@@ -1,5 +1,6 @@
 //! Offsetting: swap legs that match are left out.
 
+use crate::book::room;
 use crate::{raw, Refusal};
 
 /// Writes the book without its offsetting swap legs to the front of `out` and gives its length. The
@@ -41,7 +42,7 @@ pub fn offset(book: &[u8], out: &mut [u8]) -> Result<usize, Refusal> {
 /// ```
 pub fn offset_book(book: &[u8]) -> Result<Vec<u8>, Refusal> {
     // It is never longer than the book.
-    let mut out = vec![0; book.len()];
+    let mut out = room(book.len());
     let length = offset(book, &mut out)?;
     out.truncate(length);
     Ok(out)

@@ -1,15 +1,19 @@
 //! Options on equity, foreign exchange and commodities, by the delta-plus method.
 
-use crate::{raw, Refusal};
+use crate::{charge, raw, Refusal};
 
 /// The bytes that the book of any option table has room in: its contents and 1,000 rows.
 const MOST_BYTES: usize = 8 + 16 * 1_000;
 
 /// A charge of each class that options are on, in mils.
 #[derive(Clone, Copy, Debug, Default, PartialEq, Eq)]
+#[non_exhaustive]
 pub struct ByClass {
+    /// Options on shares and indices.
     pub equity: u64,
+    /// Options on currencies and gold.
     pub exchange: u64,
+    /// Options on commodities.
     pub commodity: u64,
 }
 
@@ -17,6 +21,7 @@ pub struct ByClass {
 /// vega is in a charge of the book or in its total: the whole charge is the total, the three of gamma and the
 /// three of vega together.
 #[derive(Clone, Copy, Debug, Default, PartialEq, Eq)]
+#[non_exhaustive]
 pub struct Options {
     /// The length of the book.
     pub length: usize,
@@ -26,10 +31,15 @@ pub struct Options {
     pub vega: ByClass,
     /// Always 0, as is the next: the book has no interest rows.
     pub interest_specific: u64,
+    /// Always 0.
     pub interest_general: u64,
+    /// As in the [`Report`](crate::Report) of the book, like the charges below.
     pub equity_specific: u64,
+    /// What the markets' nets of the deltas cost.
     pub equity_general: u64,
+    /// The deltas of foreign exchange, with gold.
     pub exchange: u64,
+    /// The ladders of the commodities' deltas.
     pub commodity: u64,
     /// The six charges of the book together.
     pub total: u64,
@@ -44,19 +54,35 @@ fn by_class(result: &[u64; 17], first: usize) -> ByClass {
     }
 }
 
-/// The figures of a result.
-fn read(result: &[u64; 17]) -> Options {
-    Options {
-        length: result[3] as usize,
-        gamma: by_class(result, 4),
-        vega: by_class(result, 7),
-        interest_specific: result[10],
-        interest_general: result[11],
-        equity_specific: result[12],
-        equity_general: result[13],
-        exchange: result[14],
-        commodity: result[15],
-        total: result[16],
+impl Options {
+    /// The six charges of the book of the deltas and their total by their names, in mils.
+    pub fn named(&self) -> [(&'static str, u64); 7] {
+        charge::named([
+            self.interest_specific,
+            self.interest_general,
+            self.equity_specific,
+            self.equity_general,
+            self.exchange,
+            self.commodity,
+            self.total,
+        ])
+    }
+
+    /// What a result of [`raw::options`] says: the figures, or the refusal.
+    pub fn of(result: &[u64; 17]) -> Result<Options, Refusal> {
+        Refusal::of(result)?;
+        Ok(Options {
+            length: result[3] as usize,
+            gamma: by_class(result, 4),
+            vega: by_class(result, 7),
+            interest_specific: result[10],
+            interest_general: result[11],
+            equity_specific: result[12],
+            equity_general: result[13],
+            exchange: result[14],
+            commodity: result[15],
+            total: result[16],
+        })
     }
 }
 
@@ -73,7 +99,7 @@ fn read(result: &[u64; 17]) -> Options {
 /// that is shorter than the book. Bytes past the book keep their values; a refused call writes nothing.
 ///
 /// ```
-/// use market_risk::{charge, options, ByClass, Options, Table};
+/// use market_risk::{charge, options, Table};
 /// // A sold call on commodity 5: 25,000 (0x61a8) at a delta of 0.7210 (0x1c2a), gamma 170, vega 84, volatility
 /// // 20 points (0x07d0), 1,081 (0x0439) days.
 /// let mut table = vec![1, 0, 4, 5, 2, 0, 0xa8, 0x61, 0, 0];
@@ -87,9 +113,8 @@ fn read(result: &[u64; 17]) -> Options {
 /// assert_eq!((sold.length, sold.commodity, sold.total), (24, 2_703_750_000, 2_703_750_000));
 /// assert_eq!(charge(&out[..24], &Table::amendment())?.total, sold.total);
 /// // Half of 25,000 x 170 x 15 x 15, and 84 x 2,000 x 2,500.
-/// let of_commodities = |commodity| ByClass { commodity, ..ByClass::default() };
-/// assert_eq!(sold.gamma, of_commodities(478_125_000));
-/// assert_eq!(sold.vega, of_commodities(420_000_000));
+/// assert_eq!((sold.gamma.commodity, sold.vega.commodity), (478_125_000, 420_000_000));
+/// assert_eq!((sold.gamma.equity, sold.gamma.exchange), (0, 0));
 /// // Without room for the book; with a group that is none; without its last byte.
 /// assert_eq!(options(&table, &mut out[..23]).unwrap_err().number, 12);
 /// table[3] = 32;
@@ -101,18 +126,17 @@ fn read(result: &[u64; 17]) -> Options {
 pub fn options(table: &[u8], out: &mut [u8]) -> Result<Options, Refusal> {
     let mut result = [0; 17];
     raw::options(table, out, &mut result);
-    Refusal::of(&result)?;
-    Ok(read(&result))
+    Options::of(&result)
 }
 
 /// The book of an option table's deltas, in a buffer of its own, and what the options cost.
 ///
 /// ```
-/// use market_risk::{options_book, Options};
+/// use market_risk::options_book;
 /// // No options cost nothing, and give the book without rows.
 /// let (book, none) = options_book(&[0, 0])?;
 /// assert_eq!(book, [0; 8]);
-/// assert_eq!(none, Options { length: 8, ..Options::default() });
+/// assert_eq!((none.length, none.total), (8, 0));
 /// // A bought put on a share of market 3, 30 at a delta of 0.5 (5,000 is 0x1388): short 15, which cost 8% and 8%.
 /// let mut table = vec![1, 0, 2, 3, 1, 1, 30, 0, 0, 0];
 /// table.extend([0x88, 0x13, 0, 0, 0, 0, 0, 0, 0, 0]);
@@ -158,6 +182,6 @@ mod tests {
             commodity: 15,
             total: 16,
         };
-        assert_eq!(read(&entries), expected);
+        assert_eq!(Options::of(&entries), Ok(expected));
     }
 }

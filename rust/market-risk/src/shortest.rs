@@ -9,7 +9,10 @@ pub enum Shortest {
     Accepted,
     /// The book is refused. A file of this length is written that is refused with the same number;
     /// of a book that is refused with 1 it has no bytes.
-    Refused { length: usize },
+    Refused {
+        /// The length of the file.
+        length: usize,
+    },
 }
 
 /// Writes the shortest file that is refused with the same number as a refused book to the front of

@@ -4,12 +4,26 @@ use crate::{raw, Refusal};
 
 /// Foreign exchange, the commodities by the simplified method, and their sum, in mils.
 #[derive(Clone, Copy, Debug, Default, PartialEq, Eq)]
+#[non_exhaustive]
 pub struct SmallBank {
     /// As in the [`Report`](crate::Report).
     pub exchange: u64,
     /// 15% of each commodity's absolute net and 3% of its gross, whatever the days.
     pub commodity: u64,
+    /// Both together.
     pub total: u64,
+}
+
+impl SmallBank {
+    /// What a result of [`raw::small_bank`] says: the figures, or the refusal.
+    pub fn of(out: &[u64; 6]) -> Result<SmallBank, Refusal> {
+        Refusal::of(out)?;
+        Ok(SmallBank {
+            exchange: out[3],
+            commodity: out[4],
+            total: out[5],
+        })
+    }
 }
 
 /// The charges of a book of foreign exchange and commodities; one with interest or equity rows
@@ -33,10 +47,5 @@ pub struct SmallBank {
 pub fn small_bank(book: &[u8]) -> Result<SmallBank, Refusal> {
     let mut out = [0; 6];
     raw::small_bank(book, &mut out);
-    Refusal::of(&out)?;
-    Ok(SmallBank {
-        exchange: out[3],
-        commodity: out[4],
-        total: out[5],
-    })
+    SmallBank::of(&out)
 }

@@ -29,6 +29,7 @@ fn figures(book: &[u8]) -> (u64, u64) {
         exchange,
         commodity,
         total,
+        ..
     } = small_bank(book).unwrap();
     assert_eq!(total, exchange + commodity);
     (exchange, commodity)

@@ -33,6 +33,8 @@ pub trait Calls {
     /// charges of the written book; its total.
     fn options(&self, table: &[u8], out: &mut [u8], result: &mut [u64; 17]);
     /// Number, row, book; 1 where there is an amount and 0 where none; the amount.
+    // Its arguments are those of the C call.
+    #[allow(clippy::too_many_arguments)]
     fn least_trade(
         &self,
         book: &[u8],

@@ -1,7 +1,7 @@
 //! Files as commands use them: read whole, written whole or not at all, - for standard
 //! input and output, and no output over an input.
 
-use crate::cli::{no, usage, Failure, Outcome};
+use crate::cli::{usage, Failure, Outcome};
 use std::fs::{self, File, Metadata, OpenOptions, Permissions};
 use std::io::{self, Read, Write};
 use std::os::fd::AsFd;
@@ -46,38 +46,6 @@ pub fn once(inputs: &[&Path]) -> Outcome {
         0 | 1 => Ok(()),
         _ => Err(usage("standard input can be read once only")),
     }
-}
-
-/// Whether bytes begin with a line of text that has a comma. No accepted book does: eight
-/// printable bytes are counts of 8,224 rows or more, and 4,000 are the most. No text is as short as
-/// the contents alone, which show that refusal.
-pub fn looks_like_csv(bytes: &[u8]) -> bool {
-    let first = bytes.split(|byte| *byte == b'\n').next().unwrap_or(bytes);
-    let line = first.trim_ascii_end();
-    let text = line.iter().all(|byte| !byte.is_ascii_control());
-    text && bytes.len() > 8 && line.len() >= 8 && line.contains(&b',')
-}
-
-/// The bytes of a file that should be packed; CSV text is told apart, with what makes it so.
-fn read_packed(path: &Path, name: &str, pack: &str) -> Result<Vec<u8>, Failure> {
-    let bytes = read(path)?;
-    match looks_like_csv(&bytes) {
-        true => Err(no(format!(
-            "{}: looks like CSV text, not {name}; make {name} of it with market-risk {pack} first",
-            input(path)
-        ))),
-        false => Ok(bytes),
-    }
-}
-
-/// The bytes of a book, accepted or not.
-pub fn read_book(path: &Path) -> Result<Vec<u8>, Failure> {
-    read_packed(path, "a book", "pack")
-}
-
-/// The bytes of an option table, accepted or not.
-pub fn read_options(path: &Path) -> Result<Vec<u8>, Failure> {
-    read_packed(path, "an option table", "pack --options")
 }
 
 /// What the system knows of an open stream.
@@ -138,11 +106,14 @@ pub fn print(text: &str) -> Outcome {
     write("-", text.as_bytes())
 }
 
-/// Writes all bytes to standard output, out of the buffer too.
+/// Writes all bytes to standard output, out of the buffer too. A pipe whose reader is gone is no
+/// error: the reader had what it wanted.
 fn emit(bytes: &[u8]) -> io::Result<()> {
     let mut out = io::stdout().lock();
-    out.write_all(bytes)?;
-    out.flush()
+    match out.write_all(bytes).and_then(|()| out.flush()) {
+        Err(error) if error.kind() == io::ErrorKind::BrokenPipe => Ok(()),
+        done => done,
+    }
 }
 
 /// The file that a link leads to, which need not be there yet; else the path itself.
@@ -188,26 +159,4 @@ fn replace(path: &Path, bytes: &[u8]) -> io::Result<()> {
         fs::rename(&part, &target)
     };
     fill().inspect_err(|_| drop(fs::remove_file(&part)))
-}
-
-#[cfg(test)]
-mod tests {
-    use super::*;
-
-    #[test]
-    fn csv_text_is_told_from_books() {
-        for text in [
-            "class,group,kind\r\nfx,1",
-            "\u{feff}class,group",
-            "fx,1,none",
-        ] {
-            assert!(looks_like_csv(text.as_bytes()), "{text}");
-        }
-        let books: [&[u8]; 5] = [b"", b"a,b\n", b",\nabcdef", b"abcdefgh", b"a,b\0cdefgh"];
-        for book in books {
-            assert!(!looks_like_csv(book), "{book:?}");
-        }
-        // Contents alone are no text, whatever they count.
-        assert!(!looks_like_csv(b"abc,efgh") && looks_like_csv(b"abc,efgh\n"));
-    }
 }

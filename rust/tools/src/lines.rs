@@ -1,6 +1,6 @@
 //! Lines that a user can check by hand: each holds a figure to what it must be.
 
-use crate::text::{mils, table};
+use crate::text::{mils, table, COLUMNS};
 use std::fmt;
 
 /// A number, in the unit that both sides of a line have, and how it is printed.
@@ -54,6 +54,11 @@ impl Line {
             right: right.1,
         }
     }
+
+    /// The name, the figure, the sign and what the figure is held to.
+    pub fn cells(&self) -> [&str; 4] {
+        [&self.name, &self.figure, self.sign, &self.right]
+    }
 }
 
 impl fmt::Display for Line {
@@ -75,14 +80,31 @@ pub fn parts<const N: usize>(parts: [(i128, &str); N]) -> Shown {
     (sum, text.join(" + "))
 }
 
-/// The lines one below the other: names, figures and signs in columns.
+/// A sum in as many lines as it takes to have at most so many columns; each but the first begins
+/// with the sign of its first term.
+fn folded(sum: &str, columns: usize) -> Vec<String> {
+    let terms = sum.replace(" + ", "\n+ ").replace(" - ", "\n- ");
+    let mut lines: Vec<String> = Vec::new();
+    for term in terms.lines() {
+        match lines.last_mut() {
+            Some(line) if line.len() + 1 + term.len() <= columns => *line += &format!(" {term}"),
+            _ => lines.push(term.into()),
+        }
+    }
+    lines
+}
+
+/// The lines one below the other: names, figures and signs in columns, what stands right of these
+/// folded where it is too long.
 pub fn show(lines: &[Line]) -> String {
     let cells = |line: &Line| vec![line.name.clone(), line.figure.clone(), line.sign.into()];
     let left = table(&lines.iter().map(cells).collect::<Vec<_>>());
-    let whole = left.lines().zip(lines);
-    whole
-        .map(|(left, line)| format!("{left} {}\n", line.right))
-        .collect()
+    let whole = |(left, line): (&str, &Line)| {
+        let below = format!("\n{:width$} ", "", width = left.len());
+        let right = folded(&line.right, COLUMNS.saturating_sub(left.len() + 1));
+        format!("{left} {}\n", right.join(&below))
+    };
+    left.lines().zip(lines).map(whole).collect()
 }
 
 /// The lines that do not hold.
@@ -129,6 +151,28 @@ mod tests {
         assert_eq!(show(&lines), text);
         let told: Vec<String> = broken(&lines).collect();
         assert_eq!(told, ["does not add up: long 7 >= 8 short"]);
+    }
+
+    /// Catches a line over 100 columns, one that is folded without need, and a term that is cut or
+    /// loses its sign: below the = stand 75 columns, and the left side has 25.
+    #[test]
+    fn a_line_is_folded_where_it_has_over_100_columns() {
+        let shown = |right: &str| {
+            let figure = (1, "1,000,000.000".to_string());
+            show(&[Line::new("charge", figure, Sign::Equal, (1, right.into()))])
+        };
+        let left = "charge  1,000,000.000  = ";
+        let (forty, below) = ("9".repeat(40), " ".repeat(25));
+        let (fits, over) = ("8".repeat(32), "8".repeat(33));
+        assert_eq!(left.len(), 25);
+        assert_eq!(
+            shown(&format!("{forty} + {fits}")),
+            format!("{left}{forty} + {fits}\n")
+        );
+        assert_eq!(
+            shown(&format!("{forty} - {over} + 7")),
+            format!("{left}{forty}\n{below}- {over} + 7\n")
+        );
     }
 
     /// Catches lines that are not looked at, or are where nothing else is told.

@@ -6,11 +6,17 @@ mod calls;
 mod cli;
 mod compare;
 mod dearest;
+mod drawing;
 mod files;
+mod forms;
+mod html;
 mod join;
+mod json;
 mod ladder;
 mod least_trade;
 mod lines;
+mod load;
+mod markup;
 mod net;
 mod offset;
 mod options;
@@ -25,19 +31,20 @@ mod unpack;
 mod vectors;
 mod written;
 
-use cli::{Command, Outcome};
+use cli::Command;
 use std::ffi::OsString;
 use std::io::Write;
 use std::process::ExitCode;
 
 /// The subcommands, in the order of the help text.
-const COMMANDS: [Command; 16] = [
+const COMMANDS: &[Command] = &[
     pack::COMMAND,
     unpack::COMMAND,
     report::COMMAND,
     ladder::COMMAND,
     least_trade::COMMAND,
     small_bank::COMMAND,
+    html::COMMAND,
     join::COMMAND,
     net::COMMAND,
     offset::COMMAND,
@@ -48,28 +55,15 @@ const COMMANDS: [Command; 16] = [
     compare::COMMAND,
     bench::COMMAND,
     vectors::COMMAND,
+    cli::man::COMMAND,
+    cli::completion::COMMAND,
+    cli::help::COMMAND,
+    cli::version::COMMAND,
 ];
-
-/// Runs the subcommand that the first word names.
-fn run(words: &[OsString]) -> Outcome {
-    let Some((name, rest)) = words.split_first() else {
-        return Err(cli::usage("no command given; see market-risk --help"));
-    };
-    if ["--help", "-h", "help"].iter().any(|help| name == help) {
-        return cli::print(&cli::overview(&COMMANDS));
-    }
-    match COMMANDS.iter().find(|command| name == command.name) {
-        Some(command) => command.start(rest),
-        None => Err(cli::usage(&format!(
-            "no command '{}'; see market-risk --help",
-            name.display()
-        ))),
-    }
-}
 
 fn main() -> ExitCode {
     let words: Vec<OsString> = std::env::args_os().skip(1).collect();
-    match run(&words) {
+    match cli::run(COMMANDS, &words) {
         Ok(()) => ExitCode::SUCCESS,
         Err(failure) => {
             // The exit status stands also where the message cannot be written.

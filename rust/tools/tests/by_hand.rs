@@ -3,30 +3,15 @@
 
 mod pocket;
 
-use pocket::{column, is_true, last, line, numbers, stored, Line};
-
-/// The stored ladders of currencies, or of commodities, with their names.
-fn ladders(of: &str) -> Vec<(String, String)> {
-    stored(|name| name.contains(&format!(".{of}-")))
-}
-
-/// The bands, the steps and the last lines of a printed ladder, without their titles.
-fn parts(text: &str) -> [Vec<&str>; 3] {
-    let parts: Vec<&str> = text.split("\n\n").collect();
-    // A loaded table is told of above the title.
-    let [.., bands, steps, lines] = parts[..] else {
-        panic!("not three parts below a title: {text}");
-    };
-    [(bands, 1), (steps, 1), (lines, 0)].map(|(part, titles)| part.lines().skip(titles).collect())
-}
+use pocket::{column, is_true, ladders, last, line, numbers, parts, Line};
 
 /// Catches a number of the last lines that is not the tables', and a line that is not true.
 #[test]
 fn currencies_add_up_as_printed() {
     let ladders = ladders("currency");
-    assert_eq!(ladders.len(), 26);
+    assert_eq!(ladders.len(), 27);
     for (name, text) in ladders {
-        let [bands, steps, lines] = parts(&text);
+        let [_, bands, _, _, steps, lines] = parts(&text);
         let lines: Vec<Line> = lines.iter().map(|text| line(text)).collect();
         let names: Vec<&str> = lines.iter().map(|line| line.name).collect();
         assert_eq!(
@@ -60,14 +45,15 @@ fn currencies_add_up_as_printed() {
 #[test]
 fn commodities_add_up_as_printed() {
     let ladders = ladders("commodity");
-    assert_eq!(ladders.len(), 7);
+    assert_eq!(ladders.len(), 8);
     for (name, text) in ladders {
-        let [bands, charges, lines] = parts(&text);
+        let [amounts, bands, charges, lines] = parts(&text);
         let lines: Vec<Line> = lines.iter().map(|text| line(text)).collect();
         let names: Vec<&str> = lines.iter().map(|line| line.name).collect();
         assert_eq!(names, ["gross", "gross", "residual", "carried", "charge"]);
         assert!(lines.iter().all(is_true), "{name}");
-        let [long, short, matched] = [4, 3, 1].map(|from_end| column(&bands, from_end));
+        let [long, short] = [1, 0].map(|from_end| column(&amounts, from_end));
+        let matched = column(&bands, 1);
         let steps: Vec<i128> = (1..7)
             .map(|band| column(&bands[band..=band], 2).abs())
             .collect();
@@ -158,7 +144,7 @@ fn the_last_lines_are_those_worked_by_hand() {
     for (name, expected) in BY_HAND {
         let file = format!("{name}.txt");
         let (_, text) = all.iter().find(|(of, _)| *of == file).unwrap();
-        let [_, _, lines] = parts(text);
+        let [lines] = parts(text);
         let squeezed = |line: &&str| line.split_whitespace().collect::<Vec<_>>().join(" ");
         let lines: Vec<String> = lines.iter().map(squeezed).collect();
         assert_eq!(lines, expected, "{name}");

@@ -27,8 +27,11 @@ fn the_charges_are_those_of_the_ladders() {
         panic!("no least trade");
     };
     let parts = parts(text);
-    let [title, charges, _, before, steps, _, after_title, after, after_steps, _] = &parts[..]
-    else {
+    let [title, charges, first @ .., _] = &parts[..] else {
+        panic!("{} parts", parts.len());
+    };
+    // A title, two tables of bands, the zones, their matches, the charges, and the lines that add up.
+    let [_, before, _, _, _, steps, _, after_title, after, _, _, _, after_steps] = first else {
         panic!("{} parts", parts.len());
     };
     assert!(title[0].starts_with("short in band 5 of currency 7: 30 thousands "));

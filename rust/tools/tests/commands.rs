@@ -25,18 +25,75 @@ fn help_for_all_and_each() {
         "compare",
         "bench",
         "vectors",
+        "help",
+        "version",
     ] {
         assert!(all.contains(&format!("\n  {command} ")));
         let one = prints(&[command, "--help"]);
         assert!(
-            one.starts_with(&format!("market-risk {command} ")),
+            one.starts_with(&format!("market-risk {command}")),
             "{command}"
         );
+        for words in [&["help", command], &["--help", command], &[command, "-h"]] {
+            assert_eq!(prints(words), one);
+        }
     }
+    assert_eq!(prints(&["help"]), all);
+    assert_eq!(prints(&["-h"]), all);
+    assert!(fails(2, &["help", "lader"]).contains("no command 'lader'; did you mean ladder?"));
+    assert!(fails(2, &["help", "ladder", "net"]).contains("2 words given where one is wanted"));
+}
+
+/// Catches a version that is not that of Cargo.toml.
+#[test]
+fn the_version_is_told() {
+    let manifest = concat!(env!("CARGO_MANIFEST_DIR"), "/../Cargo.toml");
+    let manifest = fs::read_to_string(manifest).unwrap();
+    let line = manifest.lines().find(|line| line.starts_with("version = "));
+    let version = line.unwrap().split('"').nth(1).unwrap();
+    for words in ["version", "--version", "-V"] {
+        assert_eq!(prints(&[words]), format!("market-risk {version}\n"));
+    }
+    assert!(fails(2, &["version", "x"]).contains("1 files given where 0"));
+}
+
+/// Catches a value behind = that is not the value of the next word, and options behind --.
+#[test]
+fn options_in_both_forms() {
+    let book = packed("keyed", "forms");
+    let plain = prints(&["ladder", &book, "--currency", "7"]);
+    assert_eq!(prints(&["ladder", "--currency=7", &book]), plain);
+    assert_eq!(prints(&["ladder", "--currency=7", "--", &book]), plain);
+    for (words, expected) in [
+        (
+            &["ladder", &book, "--curency=7"][..],
+            "no option '--curency' of ladder; did you mean --currency?",
+        ),
+        (
+            &["ladder", &book, "--currency=7", "--currency=7"],
+            "ladder: --currency is given twice",
+        ),
+        (
+            &["report", &book, "--currencies=1"],
+            "report: --currencies takes no value",
+        ),
+        (
+            &["report", "--", &book, "--currencies"],
+            "2 files given where 1 are wanted; see --help",
+        ),
+        (
+            &["lader", &book],
+            "no command 'lader'; did you mean ladder?",
+        ),
+    ] {
+        assert_eq!(fails(2, words), format!("market-risk: {expected}\n"));
+    }
+    // Behind -- help is a file.
+    assert!(fails(2, &["report", "--", "--help"]).contains("--help: No such file"));
 }
 
 /// What the report of each sample has, in whole currency units unless it is shown.
-const SAMPLES: [(&str, &str); 15] = [
+const SAMPLES: [(&str, &str); 16] = [
     ("equity", "0 0 8,800 4,800 0 0 13,600"),
     ("swap", "213,280 4,580,112.500 0 0 0 0 4,793,392.500"),
     ("keyed", "0 735 0 0 0 0 735"),
@@ -55,6 +112,7 @@ const SAMPLES: [(&str, &str); 15] = [
     ("offset", "1,920 812 0 0 0 0 2,732"),
     ("order-shared", "0 875 0 0 0 0 875"),
     ("order-together", "0 175 0 0 0 0 175"),
+    ("spreadsheet", "50 775 8,800 4,800 24,800 93,000 132,225"),
 ];
 
 #[test]
@@ -140,9 +198,13 @@ fn ladders_are_drawn() {
             "{words}\n{text}"
         );
     };
-    line("1 3 181-360 181-360 0.70% 75 0 525.0 0.0 0.0 525.0");
-    line("zones 1 and 2 525.0 525.0 525.0 40% 210.000");
-    line("zones 2 and 3 525.0 0.0 0.0 40% 0.000");
+    line("1 3 181-360 181-360 0.70% 75 0");
+    line("3 525.0 0.0 0.0 525.0");
+    line("within zone 2 0.0 525.0 -525.0");
+    line("zones 1 and 2 1 long 525.0 2 short 525.0 525.0");
+    line("zones 2 and 3 2 zero 0.0 3 long 525.0 nothing");
+    line("zones 1 and 2 525.0 40% 210.000");
+    line("zones 2 and 3 0.0 40% 0.000");
     line("residual 525.0 100% 525.000");
     line("charge 735.000");
     line("gross 1,575.0 = 2 x 525.0 matched + 525.0 residual");
@@ -151,7 +213,10 @@ fn ladders_are_drawn() {
     line("2 x charge 1,470.000 <= 1,575.0 gross + 525.0 residual");
     let text = prints(&["ladder", &packed("commodity", "ladder"), "--commodity", "5"]);
     assert!(text.contains(" 79,200.000\n\ngross "), "{text}");
-    assert!(text.ends_with(" + 7,200.000 (0.6% of carried)\n"), "{text}");
+    assert!(
+        text.ends_with("  + 7,200.000 (0.6% of carried)\n"),
+        "{text}"
+    );
 }
 
 #[test]
@@ -159,7 +224,6 @@ fn ladders_are_refused() {
     let book = packed("keyed", "group");
     assert!(fails(1, &["ladder", &book, "--currency", "32"]).contains("refused 10"));
     assert!(fails(1, &["ladder", &book, "--commodity", "99"]).contains("refused 10"));
-    assert!(fails(2, &["ladder", &book]).contains("--currency N"));
     assert!(fails(2, &["ladder", &book, "--currency", "x"]).contains("'x'"));
 }
 
@@ -245,36 +309,13 @@ fn a_broken_note_names_its_two_maturities() {
     assert_eq!(again, fs::read_to_string(&text).unwrap());
 }
 
-/// Catches a CSV file in the place of a book that is refused for its "row counts".
-#[test]
-fn csv_text_is_told_from_a_book() {
-    let (csv, book, out) = (sample("keyed"), packed("keyed", "text"), temporary("text"));
-    for words in [
-        &["report", &csv][..],
-        &["ladder", &csv, "--currency", "7"],
-        &least_trade(&csv, "7 5 short 1"),
-        &["unpack", &csv, &out],
-        &["join", &csv, &book, &out],
-        &["join", &book, &csv, &out],
-        &["net", &csv, &out],
-        &["net", "--offset", &csv, &out],
-        &["offset", &csv, &out],
-        &["shortest", &csv, "-o", &out],
-        &["unpack", "--options", &csv, &out],
-    ] {
-        let told = fails(1, words);
-        assert!(told.contains("keyed.csv: looks like CSV text"), "{told}");
-        assert!(told.contains("market-risk pack"), "{told}");
-    }
-}
-
 #[test]
 fn wrong_command_lines() {
     assert!(fails(2, &[]).contains("--help"));
     assert!(fails(2, &["charge"]).contains("no command 'charge'"));
     assert!(fails(2, &["report"]).contains("0 files given where 1 are wanted"));
     assert!(fails(2, &["report", "--all", "x"]).contains("no option '--all'"));
-    assert!(fails(2, &["ladder", "--currencies", "x"]).contains("no option '--currencies'"));
+    assert!(fails(2, &["small-bank", "--currencies", "x"]).contains("no option '--currencies'"));
     assert!(fails(2, &["report", &temporary("no such file")]).contains("no such file"));
     assert!(fails(2, &["bench", "--rounds", "0"]).contains("must not be 0"));
 }

@@ -98,12 +98,41 @@ fn lost_output_is_an_error() {
     }
 }
 
+/// Catches a message, or a status that is not that of the command, where the reader of a pipe is
+/// gone: it had what it wanted.
+#[test]
+fn a_pipe_whose_reader_is_gone_is_no_error() {
+    let folder = folder("pipe");
+    for (status, words) in [
+        (0, "unpack x.book -"),
+        (0, "report x.book"),
+        (0, "ladder x.book --currency 7"),
+        (0, "pack x.csv /dev/stdout"),
+        (0, "dearest --rows 3 --most 100 -o dear.book"),
+        (0, "--help"),
+        (0, "help pack"),
+        (0, "--version"),
+        (1, "shortest x.book -o shown.book"),
+    ] {
+        let (reader, writer) = std::io::pipe().unwrap();
+        drop(reader);
+        let output = tool(&folder, words).stdout(writer).output().unwrap();
+        let told = error(status, output);
+        assert_eq!(told.is_empty(), status == 0, "{words}: {told}");
+    }
+    // What is written elsewhere is not lost with the pipe: three rows of 16 bytes and the counts.
+    assert_eq!(
+        fs::metadata(format!("{folder}/dear.book")).unwrap().len(),
+        56
+    );
+}
+
 /// Catches a panic, with its own status, where the message itself cannot be written.
 #[test]
 fn the_status_stands_without_the_message() {
     let folder = folder("silent");
     let full = OpenOptions::new().write(true).open("/dev/full").unwrap();
-    let mut refused = tool(&folder, "report x.csv");
+    let mut refused = tool(&folder, "small-bank x.csv");
     assert_eq!(refused.stderr(full).status().unwrap().code(), Some(1));
 }
 

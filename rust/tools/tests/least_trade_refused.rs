@@ -103,7 +103,7 @@ fn wrong_command_lines() {
         ),
         (
             "--currency 7 --band 5 --side 1 --limit 1",
-            "--side is '1', not long or short",
+            "least-trade: --side is '1', not long or short",
         ),
         (
             "--currency 7 --band x --side short --limit 1",
@@ -116,7 +116,7 @@ fn wrong_command_lines() {
         ),
         (
             "--currency 7 --band 5 --side short --limit 1 --commodity 7",
-            "least-trade: no option '--commodity'; see --help",
+            "no option '--commodity' of least-trade; see market-risk least-trade --help",
         ),
         (
             "--currency 7 --band 5 --side short --limit",

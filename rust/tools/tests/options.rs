@@ -46,7 +46,7 @@ whole  3,601,875.000  = 2,703,750.000 (book) + 478,125.000 (gamma) + 420,000.000
     let written = prints(&["options", &table, "-o", &out]);
     assert_eq!(written, format!("{text}{out}: 24 bytes\n"));
     assert_eq!(unpacked(&out), ["commodity,4,none,1081,0,0,0,18025"]);
-    assert_eq!(prints(&["report", &out]).trim_end(), part(&text, 2));
+    assert_eq!(prints(&["report", &out]).trim_end(), part(text, 2));
 }
 
 /// Catches a put that stands or counts as a call does, and a move of another class: half of 1,000 x

@@ -102,18 +102,19 @@ fn each_number_of_a_row() {
 fn each_number_of_a_file() {
     let mixed = fs::read(packed("mixed", "shortest-file")).unwrap();
     let over = [&[0xa1, 0x0f, 0, 0, 0, 0, 0, 0], &mixed[8..]].concat();
-    // Eight letters with a comma, and no line of text behind them.
-    let text = [&b"abc,efgh\x01"[..], &mixed].concat();
+    // Eight letters with a comma: too short for text.
+    let text = b"abc,efgh";
     let counts = "has 199 bytes and counts 4, 3, 3, 2 rows";
-    let cases: [(&str, u64, &[u8], &[u8], &str); 7] = [
+    type File<'a> = &'a [u8];
+    let cases: [(&str, u64, File, File, &str); 7] = [
         ("none", 1, b"", b"", "has 0 bytes"),
         ("few", 1, &mixed[..7], b"", "has 7 bytes"),
         ("over", 2, &over, &over[..8], " 4,001, 0, 0, 0 rows"),
         (
             "text",
             2,
-            &text,
-            &text[..8],
+            text,
+            text,
             " 25,185, 11,363, 26,213, 26,727 rows",
         ),
         ("cut", 3, &mixed[..199], &mixed[..8], counts),

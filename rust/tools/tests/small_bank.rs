@@ -90,10 +90,5 @@ fn wrong_command_lines_and_files() {
         assert!(told.contains(&format!("no option '{option}'")), "{told}");
     }
     assert!(fails(2, &["small-bank", &temporary("none")]).contains("none: "));
-    let told = fails(1, &["small-bank", &sample("small-bank")]);
-    assert!(
-        told.contains("small-bank.csv: looks like CSV text"),
-        "{told}"
-    );
     assert!(run(&["small-bank", "--help"]).status.success());
 }

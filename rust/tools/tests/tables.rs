@@ -208,8 +208,10 @@ fn a_book_is_charged_under_a_loaded_table() {
     let squeezed: Vec<&str> = text.split_whitespace().collect();
     let squeezed = squeezed.join(" ");
     for words in [
-        "1 3 181-360 181-360 1.00% 75 0 750.0 0.0 0.0 750.0",
-        "zones 1 and 2 750.0 300.0 300.0 40% 120.000",
+        "1 3 181-360 181-360 1.00% 75 0",
+        "3 750.0 0.0 0.0 750.0",
+        "zones 1 and 2 1 long 750.0 2 short 300.0 300.0",
+        "zones 1 and 2 300.0 40% 120.000",
         "residual 590.0 100% 590.000 charge 710.000",
     ] {
         assert!(squeezed.contains(words), "{words}\n{text}");

@@ -102,7 +102,7 @@ fn resize(random: &mut Random, bytes: &mut Vec<u8>) {
 pub fn damaged(random: &mut Random, options: &[OptionRow]) -> Vec<u8> {
     let mut options = options.to_vec();
     let way = random.below(32);
-    if way < 16 || way % 2 == 0 {
+    if way < 16 || way.is_multiple_of(2) {
         spoil(random, &mut options);
     }
     if way == 16 || way == 17 {

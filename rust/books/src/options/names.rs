@@ -22,9 +22,10 @@ pub fn class_name(class: u8) -> String {
     underlying(class).map_or_else(|| class.to_string(), |own| CLASS_NAMES[own].into())
 }
 
-/// The class with this name. A plain number stands only for a class that has no name.
+/// The class with this name in any case. A plain number stands only for a class that has no name.
 pub fn class_of(name: &str) -> Option<u8> {
-    let known = class_names().iter().position(|known| *known == name);
+    let is = |known: &&str| known.eq_ignore_ascii_case(name);
+    let known = class_names().iter().position(is);
     known
         .map(|at| at as u8 + 2)
         .or_else(|| plain(name, class_name))
@@ -36,9 +37,10 @@ pub fn right_name(right: u8) -> String {
     known.map_or_else(|| right.to_string(), |name| name.to_string())
 }
 
-/// The right with this name. A plain number stands only for a right that has no name.
+/// The right with this name in any case. A plain number stands only for a right that has no name.
 pub fn right_of(name: &str) -> Option<u8> {
-    let known = RIGHT_NAMES.iter().position(|known| *known == name);
+    let is = |known: &&str| known.eq_ignore_ascii_case(name);
+    let known = RIGHT_NAMES.iter().position(is);
     known.map(|at| at as u8).or_else(|| plain(name, right_name))
 }
 
@@ -85,7 +87,12 @@ mod tests {
                 assert_eq!(kind_of(class, &kind_name(class, number)), Some(number));
             }
         }
-        assert_eq!(["2", "interest", "256", "Equity"].map(class_of), [None; 4]);
+        assert_eq!(
+            ["2", "interest", "256", "Interest"].map(class_of),
+            [None; 4]
+        );
+        assert_eq!(class_of("Equity"), Some(2));
+        assert_eq!(right_of("Bought Put"), Some(1));
         assert_eq!(["0", "call", "+4", "256"].map(right_of), [None; 4]);
         assert_eq!(kind_of(1, "government"), None);
         assert_eq!(kind_of(3, "0"), None);

@@ -168,12 +168,12 @@ zones-1-3 6
             (
                 "302",
                 "3,02",
-                "line 1: the weight of band 2 is '3,02', not a whole number",
+                "line 1: the weight of band 2 is '3,02': decimals are not taken; write a whole number",
             ),
             (
                 "302",
                 "-3",
-                "line 1: the weight of band 2 is '-3', not a whole number",
+                "line 1: the weight of band 2 is '-3': signs are not taken; write digits alone",
             ),
             (
                 "314",
@@ -208,7 +208,7 @@ zones-1-3 6
             (
                 "adjacent 5",
                 "adjacent 5%",
-                "line 6: adjacent is '5%', not a whole number",
+                "line 6: adjacent is '5%': units and other signs are not taken; write digits alone",
             ),
             (
                 "adjacent 5",

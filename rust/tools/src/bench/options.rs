@@ -24,7 +24,11 @@ fn option(random: &mut Random, at: usize) -> OptionRow {
             _ => 0,
         },
         amount: 1 + random.below(1_000_000) as u32,
-        delta: if at % WITHOUT_DELTA == 0 { 0 } else { delta },
+        delta: if at.is_multiple_of(WITHOUT_DELTA) {
+            0
+        } else {
+            delta
+        },
         gamma: random.below(1_000) as u16,
         vega: random.below(1_000) as u16,
         volatility: random.below(10_000) as u16,

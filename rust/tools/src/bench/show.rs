@@ -53,8 +53,8 @@ impl<'a> Table<'a> {
 
     /// Does one thing with all that is timed, line by line.
     fn each(&mut self, act: impl Fn(&mut Timed) -> Result<(), Failure>) -> Result<(), Failure> {
-        let timed = self.lines.iter_mut().flat_map(|line| &mut line.timed);
-        timed.map(act).collect()
+        let mut timed = self.lines.iter_mut().flat_map(|line| &mut line.timed);
+        timed.try_for_each(act)
     }
 
     /// Finds how often each thing is done in a measurement.

@@ -131,7 +131,8 @@ mod tests {
     #[test]
     fn books_count_by_their_sorts() {
         let one = [(5, 1), (5, 1)];
-        let cases: [(&[(u16, i64)], &[(u16, i64)], &[usize]); 11] = [
+        type Rows<'a> = &'a [(u16, i64)];
+        let cases: [(Rows, Rows, &[usize]); 11] = [
             (&[], &[], &[]),
             (&[(5, 1)], &[], &[]),
             (&one, &[], &[0]),

@@ -11,36 +11,14 @@ use market_risk::{CommodityLadder, InterestLadder, Table};
 fn interest_ladder(calls: &dyn Calls, case: &Case) -> Option<InterestLadder> {
     let mut out = [0; 13];
     calls.interest_ladder(&case.a, &case.table, case.group, &mut out);
-    let [0, _, _, gross, vertical, zone_1, zone_2, zone_3, between @ .., residual, charge] = out
-    else {
-        return None;
-    };
-    let [zones_1_2, zones_2_3, zones_1_3] = between;
-    Some(InterestLadder {
-        gross,
-        vertical,
-        zones: [zone_1, zone_2, zone_3],
-        zones_1_2,
-        zones_2_3,
-        zones_1_3,
-        residual,
-        charge,
-    })
+    InterestLadder::of(&out).ok()
 }
 
 /// The figures of a commodity, if the call is accepted.
 fn commodity_ladder(calls: &dyn Calls, case: &Case) -> Option<CommodityLadder> {
     let mut out = [0; 7];
     calls.commodity_ladder(&case.a, case.group, &mut out);
-    let [0, _, _, matches, carried, residual, charge] = out else {
-        return None;
-    };
-    Some(CommodityLadder {
-        matches,
-        carried,
-        residual,
-        charge,
-    })
+    CommodityLadder::of(&out).ok()
 }
 
 /// The first line of a ladder that does not hold.

@@ -152,7 +152,8 @@ mod tests {
     #[test]
     fn netted_books_count_by_their_sorts() {
         let exact = "outputs of netting that are just long enough";
-        let cases: [(&[Row], &[Row], usize, &[&str]); 7] = [
+        type Rows<'a> = &'a [Row];
+        let cases: [(Rows, Rows, usize, &[&str]); 7] = [
             (&[row(5, 1, 0)], &[], 24, &[]),
             (&[row(5, 1, 0), row(5, 1, 0)], &[], 24, &[SORTS[0]]),
             (&[row(5, 1, 0), row(5, 0, 1)], &[], 8, &[SORTS[0], SORTS[1]]),

@@ -200,9 +200,9 @@ mod tests {
     /// Catches a way that is counted for another, and one of two that is counted as if alone.
     #[test]
     fn broken_tables_count_by_their_way() {
-        for way in 0..WAYS {
+        for (way, name) in NAMES.iter().enumerate() {
             let table = broken(&mut Random::of_case(5, way as u64), way);
-            assert_eq!(only_way(&table.encode()), Some(way), "{}", NAMES[way]);
+            assert_eq!(only_way(&table.encode()), Some(way), "{name}");
         }
         assert_eq!(only_way(&second::table()), None);
         assert_eq!(only_way(&[255; 36]), None);

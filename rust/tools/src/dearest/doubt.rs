@@ -108,9 +108,16 @@ mod tests {
         RATES[0].row(amount)
     }
 
+    /// An answer of this length and total.
+    fn answer(length: usize, total: u64) -> Dearest {
+        let mut answer = Dearest::default();
+        (answer.length, answer.total) = (length, total);
+        answer
+    }
+
     /// What is told of a file, a length and a total.
     fn told_of(file: &[u8], length: usize, total: u64) -> Option<String> {
-        doubt(&ASKED, file, &Dearest { length, total }, &RATES)
+        doubt(&ASKED, file, &answer(length, total), &RATES)
     }
 
     /// What is told of a book and a total, whose length is its own.
@@ -123,9 +130,7 @@ mod tests {
     fn the_right_book_is_not_doubted() {
         assert_eq!(told(&[row(7); 2], 2_870_000), None);
         let none = Asked { rows: 0, most: 1 };
-        let (length, total) = (8, 0);
-        let done = Dearest { length, total };
-        assert_eq!(doubt(&none, &[0; 8], &done, &RATES), None);
+        assert_eq!(doubt(&none, &[0; 8], &answer(8, 0), &RATES), None);
     }
 
     /// Catches rows, amounts and lengths that are not counted.
@@ -168,10 +173,9 @@ mod tests {
         }
         // The right book beside a rate that is none.
         let (file, mut rates) = (book(&[row(7); 2]), RATES);
-        let (length, total) = (40, 2_870_000);
         rates[1].general = 79_999;
         let why = "equity: the library charges a row of 7 1,120.000, not 1,119.993";
-        let told = doubt(&ASKED, &file, &Dearest { length, total }, &rates);
+        let told = doubt(&ASKED, &file, &answer(40, 2_870_000), &rates);
         assert_eq!(told.unwrap(), why);
         assert!(rate(&RATES[3], 0)
             .unwrap()

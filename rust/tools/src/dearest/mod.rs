@@ -3,7 +3,7 @@
 mod doubt;
 mod rates;
 
-use crate::cli::{no, print, usage, Args, Command, Failure, Outcome};
+use crate::cli::{no, print, usage, Args, Choice, Command, Failure, Outcome, Part};
 use crate::files::{is_output, write};
 use crate::lines::{charge, show, Line, Sign::Equal};
 use crate::text::{mils, table, whole};
@@ -15,25 +15,39 @@ use rates::{Rate, RATES};
 pub const COMMAND: Command = Command {
     name: "dearest",
     brief: "the most that a book of some rows of at most an amount can cost",
-    help: "market-risk dearest --rows K --most M [-o FILE]
-
-Prints the total of the costliest book of K rows of at most M thousands each, in currency units, under
-document 01's table: no accepted book of as many rows of at most as much costs more. Below stands what
-a unit of amount, a thousand, costs at most in each class, and what K rows of M cost there at that
-rate, so that a limit can be set for a class alone.
-
-  --rows K   how many rows, 0 to 4,000
-  --most M   the largest amount of a row, 1 to 1,000,000,000 thousands
-  -o FILE    writes that book: other paper without a coupon, at 36,000 days in currency 0, each row long
-             M. Other books can be as dear. Not standard output, where the figures are printed
-
-Numbers past these limits are refused with 22, told in words, and the exit status is 1. The book and its
-total are the proved library's. They are looked at here once more, and the command fails, and writes
-nothing, if the book has another number of rows or an amount over M, if it is not charged its total by
-the library, or if the total or a class's rate is not what document 01 makes it.
-",
-    options: &["--rows", "--most", "-o"],
-    flags: &[],
+    forms: &["--rows K --most M [-o FILE]"],
+    about: &[
+        Part::Text(
+            "Prints the total of the costliest book of K rows of at most M thousands each, in \
+             currency units, under document 01's table: no accepted book of as many rows of at \
+             most as much costs more. Below stands what a unit of amount, a thousand, costs at \
+             most in each class, and what K rows of M cost there at that rate, so that a limit \
+             can be set for a class alone.",
+        ),
+        Part::Text(
+            "Numbers past the limits below are refused with 22, told in words, and the exit status \
+             is 1. The book and its total are the proved library's. They are looked at here \
+             once more, and the command fails, and writes nothing, if the book has another \
+             number of rows or an amount over M, if it is not charged its total by the \
+             library, or if the total or a class's rate is not what document 01 makes it.",
+        ),
+    ],
+    options: &[
+        Choice::number("--rows", "K", "how many rows, 0 to 4,000"),
+        Choice::number(
+            "--most",
+            "M",
+            "the largest amount of a row, 1 to 1,000,000,000 thousands",
+        ),
+        Choice::file(
+            "-o",
+            "FILE",
+            "writes that book: other paper without a coupon, at 36,000 days in currency 0, \
+             each row long M. Other books can be as dear. Not standard output, where the \
+             figures are printed",
+        ),
+    ],
+    operands: None,
     run,
 };
 

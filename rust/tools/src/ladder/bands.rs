@@ -33,6 +33,11 @@ pub fn band(last_days: &[u16], days: u16) -> usize {
     last_days.iter().take_while(|last| **last < days).count()
 }
 
+/// The zone, 1 to 3, of an interest band.
+pub fn zone(band: usize) -> usize {
+    1 + ZONES.iter().take_while(|bands| bands.end <= band).count()
+}
+
 /// The days of a band in words, or a dash where the column has no such band.
 pub fn span(last_days: &[u16], band: usize) -> String {
     let first = match band {
@@ -64,10 +69,13 @@ mod tests {
                 second::commodity_band(i128::from(days))
             );
         }
-        for (zone, bands) in ZONES.iter().enumerate() {
+        for (number, bands) in ZONES.iter().enumerate() {
             assert!(bands
                 .clone()
-                .all(|band| second::zone_of_band(band) == zone + 1));
+                .all(|band| second::zone_of_band(band) == number + 1));
+        }
+        for band in 0..15 {
+            assert_eq!(zone(band), second::zone_of_band(band));
         }
     }
 

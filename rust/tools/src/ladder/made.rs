@@ -1,9 +1,8 @@
 //! A currency's ladder from amounts that are no book's: all its figures are made here.
 
 use super::adding_up::interest_of;
-use super::interest::draw;
+use super::interest::Interest;
 use super::steps::{charge, steps, weigh, Sides};
-use crate::lines::hold;
 use market_risk::{InterestLadder, Table};
 
 /// The figures of a ladder, from the amounts of its bands. None is below zero.
@@ -12,32 +11,31 @@ fn figures(amounts: &[Sides; 15], table: &Table) -> InterestLadder {
     let (steps, rest) = steps(&bands, &table.per_cents());
     let matched = |step: usize| steps[step].matched as u64;
     let gross: i128 = bands.iter().map(|(long, short)| long + short).sum();
-    InterestLadder {
-        gross: gross as u64,
-        vertical: matched(0),
-        zones: [1, 2, 3].map(matched),
-        zones_1_2: matched(4),
-        zones_2_3: matched(5),
-        zones_1_3: matched(6),
-        residual: rest.unsigned_abs() as u64,
-        charge: charge(&steps, rest) as u64,
-    }
+    let mut ladder = InterestLadder::default();
+    ladder.gross = gross as u64;
+    ladder.vertical = matched(0);
+    ladder.zones = [1, 2, 3].map(matched);
+    ladder.zones_1_2 = matched(4);
+    ladder.zones_2_3 = matched(5);
+    ladder.zones_1_3 = matched(6);
+    ladder.residual = rest.unsigned_abs() as u64;
+    ladder.charge = charge(&steps, rest) as u64;
+    ladder
 }
 
-/// The ladder of amounts as `ladder` draws one, or the lines of it that do not add up.
-pub fn made(amounts: &[Sides; 15], group: u64, table: &Table) -> Result<String, String> {
-    let ladder = figures(amounts, table);
+/// The ladder of amounts, or what of it does not add up.
+pub fn made(amounts: &[Sides; 15], group: u64, table: &Table) -> Result<Interest, String> {
+    let figures = figures(amounts, table);
     let sums = weigh(amounts, table)
         .iter()
         .fold((0, 0), |sums, sides| (sums.0 + sides.0, sums.1 + sides.1));
-    let lines = interest_of(sums, &ladder);
-    hold(None, &lines)?;
-    Ok(draw(group, table, amounts, &ladder, &lines))
+    let lines = interest_of(sums, &figures);
+    Interest::of(*amounts, group, table, &figures, lines)
 }
 
 #[cfg(test)]
 mod tests {
-    use super::super::interest::show;
+    use super::super::interest::text;
     use super::super::steps::amounts;
     use super::*;
     use books::{Book, Row};
@@ -71,8 +69,9 @@ mod tests {
             let library = market_risk::interest_ladder(&bytes, &table, 7).unwrap();
             let bands = amounts(&rows(), 7);
             assert_eq!(figures(&bands, &table), library);
-            let drawn = show(&rows(), 7, &table, &library);
-            assert_eq!(made(&bands, 7, &table), drawn);
+            let drawn = Interest::new(&rows(), 7, &table, &library).unwrap();
+            let made = made(&bands, 7, &table).unwrap();
+            assert_eq!(text(&made, false), text(&drawn, false));
         }
     }
 }

@@ -1,55 +1,44 @@
-//! `ladder`: one currency's or one commodity's ladder as a supervisor draws it.
+//! `ladder`: the ladders of currencies and commodities as a supervisor draws them.
 
+mod about;
 pub mod adding_up;
 pub mod bands;
-mod commodity;
-mod interest;
+pub mod commodity;
+mod drawn;
+pub mod interest;
+mod listed;
 mod made;
+mod picture;
 pub mod steps;
+mod wanted;
 
-use crate::cli::{no, usage, Args, Command, Failure, Outcome};
-use crate::files::{input, print, read_book};
-use crate::report::explain;
-use crate::table::Loaded;
-use books::Book;
-use market_risk::{Refusal, Table};
+use crate::cli::{no, Args, Command, Outcome, Value};
+use crate::files::{input, print};
+use crate::forms::Form;
+use crate::json::Json;
+use crate::load::read_book;
+use crate::report::refused;
+use crate::table::{self, Loaded};
+use market_risk::Table;
 
-pub use interest::show as currency;
+pub use drawn::{drawn, Ladder, Why};
 pub use made::made;
+pub use wanted::Wanted;
 
 pub const COMMAND: Command = Command {
     name: "ladder",
-    brief: "the ladder of one currency or commodity as a table",
-    help: "market-risk ladder BOOK --currency N [--table FILE]
-market-risk ladder BOOK --commodity N
-
-Prints the ladder of currency or commodity N, 0 to 31, so that it can be checked by
-hand: for each band its weight, longs, shorts, match and net; then each step with its
-match, per cent and disallowance; the residual and the charge. Last come the lines by
-which it adds up:
-
-  currency    gross is twice the matches plus the residual, and weighted longs plus
-              weighted shorts; the residual is the difference of these; the charge is at
-              least the residual, and twice the charge at most gross plus residual
-  commodity   gross is twice the matches plus the residual, and longs plus shorts; the
-              residual is the difference of these; what is carried, step by step; the
-              charge is 1.5% of gross, 13.5% of the residual and 0.6% of what is carried
-
-Rows of kind floating stand in the band of their next fixing, as with a coupon of 3% or
-more, whatever their final maturity.
-
-Amounts are in thousands, weighted positions and charges in currency units. Matches,
-residual, what is carried and charge are the proved library's. The rows are added up here,
-by bands for the table and one by one for the last lines, and the command fails if they do
-not lead to the library's figures or if a line does not hold.
-
-  --table FILE   draws a currency's ladder under this table, 36 bytes or text as
-                 market-risk table --help tells, in the place of document 01's; where it is
-                 another, it is shown above the ladder. A refused table is told with the
-                 conditions that it breaks, and the exit status is 1
-",
-    options: &["--currency", "--commodity", "--table"],
-    flags: &[],
+    brief: "the ladders of a book, or of one currency or commodity, as tables",
+    forms: &[
+        "BOOK [--currencies] [--table FILE] [--hide-empty] [--json | --csv]",
+        "BOOK --currency N [--table FILE] [--hide-empty] [--json | --csv]",
+        "BOOK --commodities [--hide-empty] [--json | --csv]",
+        "BOOK --commodity N [--hide-empty] [--json | --csv]",
+        "BOOK --currency N --svg [--table FILE]",
+        "BOOK --commodity N --svg",
+    ],
+    about: about::ABOUT,
+    options: about::OPTIONS,
+    operands: Some(Value::File("BOOK")),
     run,
 };
 
@@ -63,46 +52,53 @@ fn same(name: &str, here: i128, library: u64) -> Result<(), String> {
     }
 }
 
-/// The ladder of a currency or of a commodity.
-enum Wanted {
-    Currency(u64),
-    Commodity(u64),
-}
-
-/// What the options ask for.
-fn wanted(args: &Args) -> Result<Wanted, Failure> {
-    match (args.number("--currency")?, args.number("--commodity")?) {
-        (Some(number), None) => Ok(Wanted::Currency(number)),
-        (None, Some(_)) if args.path("--table").is_some() => {
-            Err(usage("ladder: the ladder of a commodity takes no table"))
-        }
-        (None, Some(number)) => Ok(Wanted::Commodity(number)),
-        _ => Err(usage("ladder: give one of --currency N and --commodity N")),
+/// The ladders one below the other, or that there are none.
+fn text(ladders: &[Ladder], wanted: &Wanted, hide_empty: bool) -> String {
+    let texts: Vec<String> = ladders
+        .iter()
+        .map(|ladder| ladder.text(hide_empty))
+        .collect();
+    match texts[..] {
+        [] => format!("{}\n", wanted.none()),
+        _ => texts.join("\n"),
     }
 }
 
-/// The ladder as text, or why there is none.
-fn ladder(bytes: &[u8], wanted: Wanted, table: &Table) -> Result<String, String> {
-    let refused = |refusal: Refusal| explain(bytes, &refusal);
-    let rows = |class: usize| Book::decode(bytes).unwrap_or_default().classes[class].clone();
-    let group = |number: u64| usize::try_from(number).unwrap_or(usize::MAX);
-    match wanted {
-        Wanted::Currency(number) => {
-            let ladder = market_risk::interest_ladder(bytes, table, group(number));
-            interest::show(&rows(0), number, table, &ladder.map_err(refused)?)
-        }
-        Wanted::Commodity(number) => {
-            let ladder = market_risk::commodity_ladder(bytes, group(number));
-            commodity::show(&rows(3), number, &ladder.map_err(refused)?)
-        }
-    }
+/// The ladders as JSON, with the table that they are under.
+fn json(ladders: &[Ladder], under: &Table, hide_empty: bool) -> Json {
+    let ladders = ladders.iter();
+    let ladders = ladders.map(|ladder| ladder.listed(hide_empty).json());
+    Json::Object(vec![
+        ("table", table::json(under)),
+        ("ladders", Json::List(ladders.collect())),
+    ])
+}
+
+/// The ladders as CSV text: one table.
+fn csv(ladders: &[Ladder], hide_empty: bool) -> String {
+    let ladders = ladders.iter();
+    let lines = ladders.map(|ladder| ladder.listed(hide_empty).csv());
+    [listed::titles()].into_iter().chain(lines).collect()
 }
 
 fn run(args: &Args) -> Outcome {
     let [path] = args.files()?;
-    let wanted = wanted(args)?;
+    let (wanted, form) = (Wanted::of(args)?, Form::of(args)?);
+    let as_picture = picture::wanted(args, &wanted, form)?;
     let loaded = Loaded::new(args, path)?;
-    let text = ladder(&read_book(path)?, wanted, &loaded.table);
-    let text = text.map_err(|why| no(format!("{}: {why}", input(path))))?;
-    print(&(loaded.note() + &text))
+    let given = read_book(path)?;
+    let drawn = drawn(&given.bytes, &wanted, &loaded.table);
+    let ladders = drawn.map_err(|why| match why {
+        Why::Refused(refusal) => refused(form, path, &given, &refusal),
+        Why::Differs(why) => no(format!("{}: {why}", input(path))),
+    })?;
+    if as_picture {
+        return print(&picture::pictures(ladders, &loaded.note()));
+    }
+    let hide_empty = args.flag("--hide-empty");
+    print(&match form {
+        Form::Text => loaded.note() + &text(&ladders, &wanted, hide_empty),
+        Form::Json => format!("{}\n", json(&ladders, &loaded.table, hide_empty)),
+        Form::Csv => csv(&ladders, hide_empty),
+    })
 }

@@ -12,8 +12,21 @@ pub type Sides = (i128, i128);
 pub struct Step {
     pub name: &'static str,
     pub sides: Option<Sides>,
+    /// Of a match between zones: each zone, 0 to 2, and its net before the match.
+    pub zones: Option<[(usize, i128); 2]>,
     pub matched: i128,
     pub per_cent: i128,
+}
+
+impl Step {
+    /// Of a match between zones that is not of nothing: the zone that is long, then the one that is short.
+    pub fn long_and_short(&self) -> Option<[usize; 2]> {
+        let [(one, net), (other, _)] = self.zones.filter(|_| self.matched > 0)?;
+        match net > 0 {
+            true => Some([one, other]),
+            false => Some([other, one]),
+        }
+    }
 }
 
 /// The amounts of each band of one currency.
@@ -49,6 +62,7 @@ fn step(name: &'static str, nets: &[i128], per_cent: i128) -> Step {
     Step {
         name,
         sides: Some((long, short)),
+        zones: None,
         matched: long.min(short),
         per_cent,
     }
@@ -57,10 +71,14 @@ fn step(name: &'static str, nets: &[i128], per_cent: i128) -> Step {
 /// Sets two zones against each other and takes the match off both.
 fn between(name: &'static str, zones: &mut [i128; 3], of: [usize; 2], per_cent: i128) -> Step {
     let step = step(name, &of.map(|zone| zones[zone]), per_cent);
+    let before = of.map(|zone| (zone, zones[zone]));
     for zone in of {
         zones[zone] -= step.matched * zones[zone].signum();
     }
-    step
+    Step {
+        zones: Some(before),
+        ..step
+    }
 }
 
 /// All steps from the weighted bands, at a table's per cents, and the signed rest.
@@ -69,6 +87,7 @@ pub fn steps(bands: &[Sides; 15], per_cents: &PerCents) -> (Vec<Step>, i128) {
     let vertical = Step {
         name: "within bands",
         sides: None,
+        zones: None,
         matched: bands.iter().map(|(long, short)| long.min(short)).sum(),
         per_cent: per_cents.vertical.into(),
     };
@@ -146,16 +165,17 @@ mod tests {
 
     /// What a right library gives of them: 10 x 80 + 40 x 40 + 30 x 250 + 30 x 825 +
     /// 40 x 800 + 100 x 1,050 + 100 x 5,230 is 694,650.
-    const LADDER: InterestLadder = InterestLadder {
-        gross: 11_320,
-        vertical: 80,
-        zones: [40, 250, 825],
-        zones_1_2: 800,
-        zones_2_3: 0,
-        zones_1_3: 1_050,
-        residual: 5_230,
-        charge: 694_650,
-    };
+    fn ladder() -> InterestLadder {
+        let mut ladder = InterestLadder::default();
+        ladder.gross = 11_320;
+        ladder.vertical = 80;
+        ladder.zones = [40, 250, 825];
+        ladder.zones_1_2 = 800;
+        ladder.zones_1_3 = 1_050;
+        ladder.residual = 5_230;
+        ladder.charge = 694_650;
+        ladder
+    }
 
     /// Catches a floating-rate note in the band of its final maturity, or in the column below
     /// 300 by it. The columns agree up to 360 days: only days that no note has can tell.
@@ -175,7 +195,7 @@ mod tests {
     #[test]
     fn a_wrong_figure_of_the_drawing_is_told() {
         let check = |bands: &[Sides; 15], steps: &[Step], rest| {
-            cross_check(bands, steps, rest, &LADDER).is_ok()
+            cross_check(bands, steps, rest, &ladder()).is_ok()
         };
         let (mut steps, rest) = steps(&BANDS, &Table::amendment().per_cents());
         assert!(check(&BANDS, &steps, rest));

@@ -1,6 +1,7 @@
 //! What the library answers, and its refusals, held to the band and to its own ladder.
 
 use super::asked::Asked;
+use crate::load::Given;
 use crate::report::explain;
 use crate::text::whole;
 use market_risk::{interest_ladder, least_trade, InterestLadder, Refusal, Table};
@@ -34,8 +35,8 @@ fn words(refusal: Option<&Refusal>) -> String {
 }
 
 /// A refusal that is agreed on, explained.
-fn explained(bytes: &[u8], asked: &Asked, refusal: &Refusal) -> String {
-    let why = explain(bytes, refusal);
+fn explained(given: &Given, asked: &Asked, refusal: &Refusal) -> String {
+    let why = explain(given, refusal);
     match refusal.number {
         10 => format!("{why}\ncurrency {}, and 31 is the last", whole(asked.group)),
         21 => format!("{why}\nband {}, and 14 is the last", whole(asked.band)),
@@ -46,14 +47,14 @@ fn explained(bytes: &[u8], asked: &Asked, refusal: &Refusal) -> String {
 /// The ladder as it is and the library's answer, or why there is none: what is asked is refused, or the call
 /// and what is expected do not agree on that.
 fn held(
-    bytes: &[u8],
+    given: &Given,
     asked: &Asked,
     answer: Result<Option<u64>, Refusal>,
     expected: Expected,
 ) -> Result<(InterestLadder, Option<u64>), String> {
     match (answer, expected) {
         (Ok(amount), Ok(ladder)) => Ok((ladder, amount)),
-        (Err(told), Err(right)) if told == right => Err(explained(bytes, asked, &told)),
+        (Err(told), Err(right)) if told == right => Err(explained(given, asked, &told)),
         (answer, expected) => {
             let [told, right] = [answer.err(), expected.err()];
             let [told, right] = [words(told.as_ref()), words(right.as_ref())];
@@ -66,13 +67,14 @@ fn held(
 
 /// What the library answers, with the ladder as it is; or why there is no answer.
 pub fn ask(
-    bytes: &[u8],
+    given: &Given,
     table: &Table,
     asked: &Asked,
 ) -> Result<(InterestLadder, Option<u64>), String> {
     let [group, band] = [asked.group, asked.band].map(size);
+    let bytes = &given.bytes;
     let answer = least_trade(bytes, table, group, band, asked.side, asked.limit);
-    held(bytes, asked, answer, expected(bytes, table, asked))
+    held(given, asked, answer, expected(bytes, table, asked))
 }
 
 #[cfg(test)]
@@ -91,7 +93,8 @@ mod tests {
 
     /// What is told of a book and what is asked.
     fn told(bytes: &[u8], group: u64, band: u64) -> Result<Option<u64>, String> {
-        let answer = ask(bytes, &Table::amendment(), &asked(group, band));
+        let given = Given::of_bytes(bytes.to_vec());
+        let answer = ask(&given, &Table::amendment(), &asked(group, band));
         answer.map(|(_, amount)| amount)
     }
 
@@ -115,7 +118,8 @@ mod tests {
     #[test]
     fn the_call_and_what_is_expected_must_agree() {
         let ladder = InterestLadder::default();
-        let hold = |answer, expected| held(&[0; 8], &asked(7, 5), answer, expected);
+        let given = Given::of_bytes(vec![0; 8]);
+        let hold = |answer, expected| held(&given, &asked(7, 5), answer, expected);
         assert_eq!(hold(Ok(None), Ok(ladder)), Ok((ladder, None)));
         let row = |row| Refusal { row, ..refusal(4) };
         for (answer, expected, by_call, by_ladder) in [

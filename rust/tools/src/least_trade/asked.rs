@@ -15,10 +15,10 @@ pub struct Asked {
 }
 
 impl Asked {
-    /// What a command line asks for, all of which it must give.
-    pub fn new(args: &Args) -> Result<Asked, Failure> {
-        let (group, band) = (args.number("--currency")?, band_of(args)?);
-        let side = args.text("--side").map(|word| side(&word)).transpose()?;
+    /// What a command line asks for, all of which it must give to this command.
+    pub fn new(command: &str, args: &Args) -> Result<Asked, Failure> {
+        let (group, band) = (args.number("--currency")?, band_of(command, args)?);
+        let side = args.text("--side").map(|word| side(&word));
         let limit = args.text("--limit").map(|text| limit(&text)).transpose()?;
         match (group, side, limit) {
             (Some(group), Some(side), Some(limit)) => Ok(Asked {
@@ -28,8 +28,8 @@ impl Asked {
                 limit,
             }),
             _ => {
-                let why = "least-trade: give --currency G, --side long or short, and --limit X";
-                Err(usage(why))
+                let why = "give --currency G, --side long or short, and --limit X";
+                Err(usage(&format!("{command}: {why}")))
             }
         }
     }
@@ -44,14 +44,14 @@ impl Asked {
 }
 
 /// The band: by its number, or by days and a coupon.
-fn band_of(args: &Args) -> Result<u64, Failure> {
+fn band_of(command: &str, args: &Args) -> Result<u64, Failure> {
     let [number, days, coupon] = ["--band", "--days", "--coupon"].map(|name| args.number(name));
     match (number?, days?, coupon?) {
         (Some(number), None, None) => Ok(number),
         (None, Some(days), Some(coupon)) => by_maturity(days, coupon),
         _ => {
-            let why = "least-trade: give --band B, or --days D and --coupon C";
-            Err(usage(why))
+            let why = "give --band B, or --days D and --coupon C";
+            Err(usage(&format!("{command}: {why}")))
         }
     }
 }
@@ -78,12 +78,11 @@ fn by_maturity(days: u64, coupon: u64) -> Result<u64, Failure> {
     Ok(band(column, days) as u64)
 }
 
-/// The side that a word names.
-fn side(word: &str) -> Result<Side, Failure> {
+/// The side that a word names, which is one of the two that the option takes.
+fn side(word: &str) -> Side {
     match word {
-        "long" => Ok(Side::Long),
-        "short" => Ok(Side::Short),
-        _ => Err(usage(&format!("--side is '{word}', not long or short"))),
+        "long" => Side::Long,
+        _ => Side::Short,
     }
 }
 
@@ -184,11 +183,7 @@ mod tests {
 
     #[test]
     fn sides_are_named() {
-        assert_eq!(side("long"), Ok(Side::Long));
-        assert_eq!(side("short"), Ok(Side::Short));
-        for word in ["", "Long", "0", "1", "shorts"] {
-            let why = format!("--side is '{word}', not long or short");
-            assert_eq!(side(word), Err(usage(&why)));
-        }
+        assert_eq!(side("long"), Side::Long);
+        assert_eq!(side("short"), Side::Short);
     }
 }

@@ -1,28 +1,13 @@
 //! What is printed of a least trade.
 
+use super::answered::Answered;
 use super::asked::Asked;
 use super::curve::{Curve, MOST};
+use crate::ladder::interest;
 use crate::ladder::made;
 use crate::lines::{show, Line, Sign};
 use crate::text::{mils, whole};
 use market_risk::Table;
-
-/// What is printed above all figures.
-fn title(asked: &Asked, answer: Option<u64>) -> String {
-    let what = match answer {
-        None => format!(
-            "no amount of 0 to {} thousands brings the charge within the limit",
-            whole(MOST)
-        ),
-        Some(0) => "0 thousands, the charge is within the limit as it is".into(),
-        Some(amount) => format!(
-            "{} thousands are the least that bring the charge within the limit",
-            whole(amount)
-        ),
-    };
-    let (group, band, side) = (asked.group, asked.band, asked.side_word());
-    format!("{side} in band {band} of currency {group}: {what}\n")
-}
 
 /// An amount added to its side, in words.
 fn with(asked: &Asked, amount: u64) -> String {
@@ -55,22 +40,18 @@ fn charges(curve: &Curve, asked: &Asked, answer: Option<u64>) -> Vec<Line> {
     lines
 }
 
-/// The whole text, with the ladder before as it is drawn; or what does not add up in the ladder after, which
+/// The whole text, with the ladder before; or what does not add up in the ladder after, which
 /// only a least trade above 0 has.
-pub fn text(
-    curve: &Curve,
-    asked: &Asked,
-    table: &Table,
-    answer: Option<u64>,
-    before: &str,
-) -> Result<String, String> {
-    let title = title(asked, answer);
+pub fn text(answered: &Answered, table: &Table) -> Result<String, String> {
+    let (curve, asked, answer) = (&answered.curve, answered.asked, answered.amount);
+    let title = answered.title();
     let charges = show(&charges(curve, asked, answer));
-    let text = format!("{title}\n{charges}\nthe ladder before\n{before}");
+    let before = interest::text(&answered.before, false);
+    let text = format!("{title}\n\n{charges}\nthe ladder before\n{before}");
     match answer {
         None | Some(0) => Ok(text),
         Some(amount) => {
-            let after = made(&curve.amounts(amount), asked.group, table)?;
+            let after = interest::text(&made(&curve.amounts(amount), asked.group, table)?, false);
             let (with, band) = (with(asked, amount), asked.band);
             Ok(format!("{text}\nthe ladder {with} in band {band}\n{after}"))
         }

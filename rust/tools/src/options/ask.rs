@@ -3,7 +3,7 @@
 use super::deltas;
 use super::fault::{fault, Fault};
 use super::greeks::{by_underlying, Greeks, Underlying};
-use super::load::Given;
+use crate::load::Given;
 use books::options::names::class_name;
 use books::options::{decode, encode, OptionRow};
 use books::ROW_BYTES;
@@ -59,7 +59,7 @@ fn held(
     match (answer, fault) {
         (Ok(answer), None) => Ok(answer),
         (Err(told), Some(fault)) if (told.number, told.row) == (fault.number, fault.row) => {
-            Err(given.refused(&told, &fault))
+            Err(format!("{}\n{}", given.refused(&told), fault.words))
         }
         (Err(told), None) => Err(format!("{told}\n{limits} accepted")),
         (Err(told), Some(fault)) => {
@@ -96,6 +96,7 @@ pub fn of_underlyings(options: &[OptionRow]) -> Result<Vec<Alone>, String> {
 #[cfg(test)]
 mod tests {
     use super::*;
+    use crate::load::option_table;
 
     /// Equity 3 bought and sold, and commodity 4 of delta 0 between them.
     const TEXT: &str = "class,group,right,kind,amount,delta,gamma,vega,volatility,days
@@ -105,7 +106,7 @@ equity,3,sold call,index,2000,5000,10,1,2000,0
 ";
 
     fn given() -> Given {
-        Given::of_text(TEXT).unwrap()
+        option_table(TEXT).unwrap()
     }
 
     fn refusal(number: u64, row: u64) -> Refusal {

@@ -6,55 +6,83 @@ mod doubt;
 mod fault;
 mod greeks;
 mod limits;
-mod load;
 mod show;
 
-use crate::cli::{no, print, usage, Args, Command, Outcome};
+use crate::cli::{no, print, usage, Args, Choice, Command, Outcome, Part, Value};
 use crate::files::{apart, input, is_output, write};
+use crate::load::{read_options, Given};
 use crate::written::length_line;
 use ask::{of_table, of_underlyings};
 use books::options::{csv, decode};
 use doubt::hold;
-use load::{read_table, Given};
 
 pub const COMMAND: Command = Command {
     name: "options",
     brief: "what options cost: the book of their deltas, gamma and vega",
-    help: "market-risk options TABLE [-o FILE]
-
-Charges a table of options on equity, foreign exchange and commodities by the delta-plus method, in
-currency units, to the mil. TABLE is bytes, or CSV text whose first line is exactly
-
-  class,group,right,kind,amount,delta,gamma,vega,volatility,days
-
-and which market-risk pack --options makes into bytes. Prints
-
-  the book of the deltas: each option gives a row of amount times delta, rounded up, long for bought
-  calls and sold puts, short for bought puts and sold calls; an option of delta 0 gives none
-
-  gamma and vega of each underlying, a class and group, and of each class. Bought options count as
-  positive and sold ones as negative: a gamma is charged where the sum of an underlying is below
-  zero, a vega by the sum without its sign
-
-  the charges of the book, as market-risk report prints them
-
-  the whole charge: the book's total, gamma and vega, which are in none of the book's charges
-
-  -o FILE   writes the book, a book like others. Not standard output, where the figures are printed
-
-A refused table is explained in words, with the fields of its option, and the exit status is 1:
-
-  16   more than 1,000 options, or another length than that of its count
-  17   an option with a field out of its range; the first such option is told
-
-All figures are the proved library's; those of an underlying are its answer to a table of that
-underlying's options alone. Rows, gamma and vega are calculated here once more, and the command
-fails, and prints and writes nothing, where the library has another, where its underlyings do not
-add up to a class, where it charges the book otherwise than it tells, or where it refuses or takes
-a table against its limits.
-",
-    options: &["-o"],
-    flags: &[],
+    forms: &["TABLE [-o FILE]"],
+    about: &[
+        Part::Text(
+            "Charges a table of options on equity, foreign exchange and commodities by the \
+             delta-plus method, in currency units, to the mil. TABLE is bytes, or CSV text \
+             with the columns",
+        ),
+        Part::Lines(&["class,group,right,kind,amount,delta,gamma,vega,volatility,days"]),
+        Part::Text(
+            "as market-risk pack --help tells, which pack --options makes into bytes. It prints",
+        ),
+        Part::Words(&[
+            (
+                "deltas",
+                "the book of the deltas: each option gives a row of amount times delta, \
+                 rounded up, long for bought calls and sold puts, short for bought puts and \
+                 sold calls; an option of delta 0 gives none",
+            ),
+            (
+                "gamma and vega",
+                "of each underlying, a class and group, and of each class. Bought options \
+                 count as positive and sold ones as negative: a gamma is charged where the \
+                 sum of an underlying is below zero, a vega by the sum without its sign",
+            ),
+            (
+                "charges",
+                "the charges of the book, as market-risk report prints them",
+            ),
+            (
+                "whole",
+                "the whole charge: the book's total, gamma and vega, which are in none of the \
+                 book's charges",
+            ),
+        ]),
+        Part::Text(
+            "A refused table is explained in words, with the fields of its option, and the \
+             exit status is 1:",
+        ),
+        Part::Words(&[
+            (
+                "16",
+                "more than 1,000 options, or another length than that of its count",
+            ),
+            (
+                "17",
+                "an option with a field out of its range; the first such option is told",
+            ),
+        ]),
+        Part::Text(
+            "All figures are the proved library's; those of an underlying are its answer to a \
+             table of that underlying's options alone. Rows, gamma and vega are calculated \
+             here once more, and the command fails, and prints and writes nothing, where the \
+             library has another, where its underlyings do not add up to a class, where it \
+             charges the book otherwise than it tells, or where it refuses or takes a table \
+             against its limits.",
+        ),
+    ],
+    options: &[Choice::file(
+        "-o",
+        "FILE",
+        "writes the book, a book like others. Not standard output, where the figures are \
+             printed",
+    )],
+    operands: Some(Value::File("TABLE")),
     run,
 };
 
@@ -68,19 +96,15 @@ fn written(given: &Given) -> Result<(Vec<u8>, String), String> {
     Ok((answer.file, text))
 }
 
-/// The bytes of the options of CSV text; without a check also where they are refused.
-pub fn pack(text: &str, unchecked: bool) -> Result<Vec<u8>, String> {
-    let given = Given::of_text(text)?;
-    if !unchecked {
-        of_table(&given)?;
-    }
-    Ok(given.bytes)
+/// Why a table is refused, if it is.
+pub fn check(given: &Given) -> Result<(), String> {
+    of_table(given).map(|_| ())
 }
 
 /// The options of a table as CSV text. One whose length is not that of its count has none.
-pub fn unpack(table: Vec<u8>) -> Result<String, String> {
-    let Some(options) = decode(&table) else {
-        of_table(&Given::of_bytes(table))?;
+pub fn unpack(given: Given) -> Result<String, String> {
+    let Some(options) = decode(&given.bytes) else {
+        check(&given)?;
         return Err("the length is not that of the count".into());
     };
     Ok(csv::write(&options))
@@ -96,7 +120,7 @@ fn run(args: &Args) -> Outcome {
         }
         apart(to, &[from])?;
     }
-    let given = read_table(from)?;
+    let given = read_options(from)?;
     let (file, mut text) = written(&given).map_err(|why| no(format!("{}: {why}", input(from))))?;
     if let Some(to) = to {
         write(to, &file)?;
@@ -108,6 +132,7 @@ fn run(args: &Args) -> Outcome {
 #[cfg(test)]
 mod tests {
     use super::*;
+    use crate::load::option_table;
 
     /// An option on gold, and one on no currency.
     const GOOD: &str = "fx,0,bought call,none,100,5000,0,0,0,0\n";
@@ -117,30 +142,31 @@ mod tests {
         format!("{}\n{lines}", csv::HEADER)
     }
 
+    /// The bytes of lines of text, which must be accepted.
+    fn packed(lines: &str) -> Result<Given, String> {
+        let given = option_table(&text(lines))?;
+        check(&given).map(|()| given)
+    }
+
     #[test]
     fn text_is_packed_and_comes_back() {
         for lines in ["", GOOD, &GOOD.repeat(1_000)] {
-            let bytes = pack(&text(lines), false).unwrap();
-            assert_eq!(unpack(bytes).unwrap(), text(lines));
+            assert_eq!(unpack(packed(lines).unwrap()).unwrap(), text(lines));
         }
     }
 
-    /// Catches a refused table that is packed, and one that cannot be packed at all.
+    /// Catches a refused table that is taken, or that is told without its line.
     #[test]
-    fn a_refused_table_names_its_line_or_is_packed_unchecked() {
+    fn a_refused_table_names_its_line() {
         let lines = [GOOD, "\n", BAD].concat();
-        let told = pack(&text(&lines), false).unwrap_err();
+        let told = packed(&lines).unwrap_err();
         assert!(told.starts_with("line 4: refused 17: "), "{told}");
         assert!(told.ends_with("; group may be 0 to 31"), "{told}");
-        let bytes = pack(&text(&lines), true).unwrap();
-        assert_eq!(bytes.len(), 38);
-        assert_eq!(unpack(bytes).unwrap(), text(&[GOOD, BAD].concat()));
-        let many = text(&GOOD.repeat(1_001));
-        let told = pack(&many, false).unwrap_err();
+        let told = packed(&GOOD.repeat(1_001)).unwrap_err();
         assert!(told.starts_with("line 1002: refused 16: "), "{told}");
-        assert_eq!(unpack(pack(&many, true).unwrap()).unwrap(), many);
-        let told = pack("class", true).unwrap_err();
-        assert!(told.starts_with("line 1: the header must be exactly "));
+        // Unpacked they are as they were.
+        let given = option_table(&text(&lines)).unwrap();
+        assert_eq!(unpack(given).unwrap(), text(&[GOOD, BAD].concat()));
     }
 
     #[test]
@@ -152,7 +178,7 @@ mod tests {
                 "the table counts 1 options, which have 20 bytes, and has 2",
             ),
         ] {
-            let told = unpack(bytes).unwrap_err();
+            let told = unpack(Given::of_bytes(bytes)).unwrap_err();
             assert!(told.starts_with("refused 16: "), "{told}");
             assert!(told.ends_with(&format!("\n{words}")), "{told}");
         }

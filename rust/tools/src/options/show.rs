@@ -107,15 +107,15 @@ pub fn text(answer: &Answer, groups: &[Alone], report: &Report) -> String {
 #[cfg(test)]
 mod tests {
     use super::super::ask::{of_table, of_underlyings};
-    use super::super::load::Given;
     use super::*;
+    use crate::load::option_table;
     use books::options::decode;
     use market_risk::Table;
 
     /// What is printed of the options of some lines.
     fn printed(lines: &[&str]) -> String {
         let header = books::options::csv::HEADER;
-        let given = Given::of_text(&format!("{header}\n{}", lines.join("\n"))).unwrap();
+        let given = option_table(&format!("{header}\n{}", lines.join("\n"))).unwrap();
         let answer = of_table(&given).unwrap();
         let groups = of_underlyings(&decode(&given.bytes).unwrap()).unwrap();
         let report = market_risk::charge(&answer.file, &Table::amendment());

@@ -1,6 +1,7 @@
 //! A refusal in words.
 
 use super::issues::{differing, over};
+use crate::load::Given;
 use crate::text::whole;
 use books::names::{floating, kind_name, kinds, CLASS_NAMES};
 use books::{Book, Row};
@@ -57,11 +58,13 @@ fn counts(bytes: &[u8]) -> [String; 4] {
 }
 
 /// A refusal explained, with its row's fields.
-pub fn explain(bytes: &[u8], refusal: &Refusal) -> String {
+pub fn explain(given: &Given, refusal: &Refusal) -> String {
+    let bytes = &given.bytes[..];
     let length = whole(bytes.len() as u64);
     let book = Book::decode(bytes).unwrap_or_default();
     let more = match (refusal.number, book.row(refusal.row as usize)) {
         (1, _) => format!("the file has {length} bytes"),
+        (2, _) if given.is_text() => format!("the text has {} rows", counts(bytes).join(", ")),
         (2 | 3, _) => format!(
             "the file has {length} bytes and counts {} rows",
             counts(bytes).join(", ")
@@ -73,11 +76,11 @@ pub fn explain(bytes: &[u8], refusal: &Refusal) -> String {
         (number @ (4..=9 | 15), Some((class, row))) => {
             format!("{}; {}", fields(class, &row), allowed(number, class))
         }
-        (13, Some((class, row))) => differing(&book, class, &row),
+        (13, Some((class, row))) => differing(given, &book, class, &row),
         (14, Some((class, row))) => over(&book, class, &row),
-        _ => return refusal.to_string(),
+        _ => return given.refused(refusal),
     };
-    format!("{refusal}\n{more}")
+    format!("{}\n{more}", given.refused(refusal))
 }
 
 #[cfg(test)]
@@ -85,7 +88,8 @@ mod tests {
     use super::*;
 
     fn explained(bytes: &[u8]) -> String {
-        explain(bytes, &market_risk::check(bytes).unwrap_err())
+        let given = Given::of_bytes(bytes.to_vec());
+        explain(&given, &market_risk::check(bytes).unwrap_err())
     }
 
     #[test]
@@ -161,7 +165,7 @@ mod tests {
         let bytes = book.encode().unwrap();
         let refusal = market_risk::small_bank(&bytes).unwrap_err();
         assert_eq!(
-            explain(&bytes, &refusal),
+            explain(&Given::of_bytes(bytes), &refusal),
             "refused 20: interest or equity rows in a small bank's book\n\
              the file counts 1,234 interest and 5 equity rows"
         );
@@ -178,7 +182,7 @@ mod tests {
         let table = market_risk::Table::amendment();
         let refusal = market_risk::interest_ladder(&bytes, &table, 32).unwrap_err();
         assert_eq!(
-            explain(&bytes, &refusal),
+            explain(&Given::of_bytes(bytes), &refusal),
             "refused 10: ladder group over 31"
         );
     }

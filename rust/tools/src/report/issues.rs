@@ -1,6 +1,7 @@
 //! Why an issue cannot be netted, in words.
 
 use super::explain::{fields, terms};
+use crate::load::Given;
 use crate::text::whole;
 use books::names::kind_name;
 use books::{Book, Row};
@@ -27,7 +28,7 @@ fn of_issue(book: &Book, class: usize, issue: u16) -> Vec<(usize, Row)> {
 }
 
 /// A row that differs, and what the first row of its issue has instead.
-pub fn differing(book: &Book, class: usize, row: &Row) -> String {
+pub fn differing(given: &Given, book: &Book, class: usize, row: &Row) -> String {
     let (at, first) = of_issue(book, class, row.issue)[0];
     let pairs = shown(class, &first).into_iter().zip(shown(class, row));
     let differ = pairs.filter(|(first, own)| first != own);
@@ -35,8 +36,9 @@ pub fn differing(book: &Book, class: usize, row: &Row) -> String {
         .map(|((name, value), _)| format!("{name} {value}"))
         .collect();
     format!(
-        "{}; row {at}, the first of issue {}, has {}",
+        "{}; {}, the first of issue {}, has {}",
         fields(class, row),
+        given.place(at),
         row.issue,
         has.join(", ")
     )
@@ -74,7 +76,8 @@ mod tests {
         let mut book = Book::default();
         (book.classes[0], book.classes[1]) = (interest.to_vec(), equity.to_vec());
         let bytes = book.encode().unwrap();
-        explain(&bytes, &market_risk::netted(&bytes).unwrap_err())
+        let refusal = market_risk::netted(&bytes).unwrap_err();
+        explain(&Given::of_bytes(bytes), &refusal)
     }
 
     /// Catches a difference that is told without what the first row has, or without its number.

@@ -4,79 +4,95 @@ mod currencies;
 mod doubt;
 mod explain;
 mod issues;
+mod listed;
+mod refused;
 
-use crate::cli::{no, Args, Command, Outcome};
-use crate::files::{input, print, read_book};
+use crate::cli::{no, Args, Choice, Command, Outcome, Part, Value};
+use crate::files::{input, print};
+use crate::forms::{self, Form};
+use crate::load::read_book;
 use crate::table::Loaded;
-use crate::text::{mils, table};
 use books::Book;
 use market_risk::Report;
 
+pub use currencies::used;
 pub use doubt::doubt;
 pub use explain::{explain, fields};
+pub use refused::refused;
 
 pub const COMMAND: Command = Command {
     name: "report",
     brief: "the six charges of a book and their total",
-    help: "market-risk report BOOK [--table FILE] [--currencies]
-
-Prints the six charges of a book and their total in currency units, to the mil.
-A refused book is explained in words, with the fields of its row, and the exit
-status is 1. The command fails too if the library took another number of rows than the
-file has, if its six charges do not add up to its total, if its charges by currency do
-not add up to the two interest charges, or if a currency without interest rows has any.
-
-  --table FILE   charges interest under this table, 36 bytes or text as market-risk table
-                 --help tells, in the place of document 01's; where it is another, it is
-                 shown above the charges. A refused table is told with the conditions that
-                 it breaks, and the exit status is 1
-  --currencies   then prints, below an empty line, the specific and the general charge
-                 of each currency that has interest rows, both together, and the sums
-",
-    options: &["--table"],
-    flags: &["--currencies"],
+    forms: &["BOOK [--table FILE] [--currencies] [--json | --csv]"],
+    about: &[Part::Text(
+        "Prints the six charges of a book and their total in currency units, to the mil. A \
+         refused book is explained in words, with the fields of its row, and the exit \
+         status is 1. The command fails too if the library took another number of rows \
+         than the file has, if its six charges do not add up to its total, if its charges \
+         by currency do not add up to the two interest charges, or if a currency without \
+         interest rows has any.",
+    )],
+    options: &[
+        Choice::file(
+            "--table",
+            "FILE",
+            "charges interest under this table, 36 bytes or text as market-risk table --help \
+             tells, in the place of document 01's; where it is another, it is shown above the \
+             charges. A refused table is told with the conditions that it breaks, and the exit \
+             status is 1",
+        ),
+        Choice::flag(
+            "--currencies",
+            "then prints, below an empty line, the specific and the general charge of each \
+             currency that has interest rows, both together, and the sums; JSON and CSV always \
+             have the two charges of each",
+        ),
+        forms::JSON,
+        forms::CSV,
+    ],
+    operands: Some(Value::File("BOOK")),
     run,
 };
 
-/// The six charges and the total, with their names.
-pub fn named(report: &Report) -> [(&'static str, u64); 7] {
-    [
-        ("interest specific", report.interest_specific),
-        ("interest general", report.interest_general),
-        ("equity specific", report.equity_specific),
-        ("equity general", report.equity_general),
-        ("foreign exchange", report.exchange),
-        ("commodity", report.commodity),
-        ("total", report.total),
-    ]
-}
-
-/// The report as a table.
+/// The report as lines.
 pub fn figures(report: &Report) -> String {
-    let cells = |(name, value): (&str, u64)| vec![name.to_string(), mils(value)];
-    table(&named(report).map(cells))
+    format!("{report}\n")
 }
 
-/// What is printed of a report, or why it cannot be that of the book.
-fn text(book: &Book, report: &Report, by_currency: bool) -> Result<String, String> {
+/// The report as text, with the charges by currency where they are wanted.
+fn text(book: &Book, report: &Report, by_currency: bool) -> String {
     let figures = figures(report);
-    match (doubt(book, report), by_currency) {
+    match by_currency {
+        false => figures,
+        true => format!("{figures}\n{}", currencies::show(book, report)),
+    }
+}
+
+/// What is printed of a report in a form, or why it cannot be that of the book.
+fn printed(
+    book: &Book,
+    report: &Report,
+    loaded: &Loaded,
+    (form, by_currency): (Form, bool),
+) -> Result<String, String> {
+    match (doubt(book, report), form) {
         (Some(why), _) => Err(why),
-        (None, false) => Ok(figures),
-        (None, true) => Ok(format!("{figures}\n{}", currencies::show(book, report))),
+        (None, Form::Text) => Ok(loaded.note() + &text(book, report, by_currency)),
+        (None, Form::Json) => Ok(format!("{}\n", listed::json(book, report, &loaded.table))),
+        (None, Form::Csv) => Ok(listed::csv(book, report)),
     }
 }
 
 fn run(args: &Args) -> Outcome {
     let [path] = args.files()?;
+    let form = Form::of(args)?;
     let loaded = Loaded::new(args, path)?;
-    let bytes = read_book(path)?;
-    let charged = market_risk::charge(&bytes, &loaded.table);
-    let explained = charged.map_err(|refusal| explain(&bytes, &refusal));
-    let book = Book::decode(&bytes).unwrap_or_default();
-    let text = explained.and_then(|report| text(&book, &report, args.flag("--currencies")));
-    let text = text.map_err(|why| no(format!("{}: {why}", input(path))))?;
-    print(&(loaded.note() + &text))
+    let given = read_book(path)?;
+    let charged = market_risk::charge(&given.bytes, &loaded.table);
+    let report = charged.map_err(|refusal| refused(form, path, &given, &refusal))?;
+    let book = Book::decode(&given.bytes).unwrap_or_default();
+    let printed = printed(&book, &report, &loaded, (form, args.flag("--currencies")));
+    print(&printed.map_err(|why| no(format!("{}: {why}", input(path))))?)
 }
 
 #[cfg(test)]
@@ -86,14 +102,12 @@ mod tests {
     /// The rows taken and the charges by currency are not printed.
     #[test]
     fn figures_are_in_currency_units() {
-        let report = Report {
-            interest_general: 4_580_112_500,
-            total: 4_580_112_500,
-            taken: 3_999,
-            specifics: [8_888; 32],
-            generals: [8_888; 32],
-            ..Report::default()
-        };
+        let mut report = Report::default();
+        report.interest_general = 4_580_112_500;
+        report.total = 4_580_112_500;
+        report.taken = 3_999;
+        report.specifics = [8_888; 32];
+        report.generals = [8_888; 32];
         let text = figures(&report);
         assert!(
             text.contains("interest general   4,580,112.500\n"),
@@ -109,22 +123,26 @@ mod tests {
     #[test]
     fn currencies_come_below_the_report_where_they_are_asked_for() {
         let (book, report) = (Book::default(), Report::default());
-        let plain = text(&book, &report, false).unwrap();
+        let plain = text(&book, &report, false);
         assert_eq!(plain, figures(&report));
         let below = currencies::show(&book, &report);
-        let more = text(&book, &report, true).unwrap();
+        let more = text(&book, &report, true);
         assert_eq!(more, format!("{plain}\n{below}"));
     }
 
-    /// Catches a report that is doubted with the option alone, or without it alone.
+    /// Catches a report that is doubted in one form alone, or with the option alone.
     #[test]
     fn a_wrong_report_is_never_printed() {
-        let wrong = Report {
-            taken: 1,
-            ..Report::default()
-        };
-        for by_currency in [false, true] {
-            assert!(text(&Book::default(), &wrong, by_currency).is_err());
+        let mut wrong = Report::default();
+        wrong.taken = 1;
+        let loaded = Loaded::default();
+        for form in [Form::Text, Form::Json, Form::Csv] {
+            for by_currency in [false, true] {
+                let wanted = (form, by_currency);
+                assert!(printed(&Book::default(), &wrong, &loaded, wanted).is_err());
+                let right = Report::default();
+                assert!(printed(&Book::default(), &right, &loaded, wanted).is_ok());
+            }
         }
     }
 }

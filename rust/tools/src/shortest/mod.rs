@@ -3,8 +3,9 @@
 mod doubt;
 mod reading;
 
-use crate::cli::{no, print, usage, Args, Command, Outcome};
-use crate::files::{apart, input, is_output, read_book, write};
+use crate::cli::{no, print, usage, Args, Choice, Command, Outcome, Part, Value};
+use crate::files::{apart, input, is_output, write};
+use crate::load::{read_book, Given};
 use crate::report::explain;
 use crate::text::whole;
 use doubt::doubt;
@@ -14,35 +15,51 @@ use std::path::Path;
 pub const COMMAND: Command = Command {
     name: "shortest",
     brief: "the shortest file that shows why a book is refused",
-    help: "market-risk shortest BOOK -o FILE
-
-Writes the shortest file that is refused with the same number as a refused book, to be sent in the
-place of the book where the number is to be explained. It tells the refusal as market-risk report
-does, with the row in the book and its class, and the length of the file. Its bytes are, by the
-number,
-
-  1           none
-  2           the contents of the book, its first eight bytes
-  3           the contents, in which the first count is made 1 where all four are zero
-  4 to 9, 15  24: the contents of a book of one row, and the refused row as it is
-
-so that of all rows the refused one alone is in it. No shorter file is refused with that number.
-The file is a book like others: explain it with market-risk report, show it with market-risk unpack.
-
-Of a book that is accepted there is nothing to show: no file is written, and the exit status is 1.
-The file is the proved library's. The book's refusal is looked for here once more, and the command
-fails, and writes nothing, if another file shows it or the library does not refuse the file alike.
-
-  -o FILE   the file to write; not standard output, where the refusal is told
-",
-    options: &["-o"],
-    flags: &[],
+    forms: &["BOOK -o FILE"],
+    about: &[
+        Part::Text(
+            "Writes the shortest file that is refused with the same number as a refused book, \
+             to be sent in the place of the book where the number is to be explained. It tells \
+             the refusal as market-risk report does, with the row in the book and its class, \
+             and the length of the file. Its bytes are, by the number,",
+        ),
+        Part::Words(&[
+            ("1", "none"),
+            ("2", "the contents of the book, its first eight bytes"),
+            (
+                "3",
+                "the contents, in which the first count is made 1 where all four are zero",
+            ),
+            (
+                "4 to 9, 15",
+                "24: the contents of a book of one row, and the refused row as it is",
+            ),
+        ]),
+        Part::Text(
+            "so that of all rows the refused one alone is in it. No shorter file is refused \
+             with that number. The file is a book like others: explain it with market-risk \
+             report, show it with market-risk unpack.",
+        ),
+        Part::Text(
+            "Of a book that is accepted there is nothing to show: no file is written, and the \
+             exit status is 1. The file is the proved library's. The book's refusal is looked \
+             for here once more, and the command fails, and writes nothing, if another file \
+             shows it or the library does not refuse the file alike.",
+        ),
+    ],
+    options: &[Choice::file(
+        "-o",
+        "FILE",
+        "the file to write; not standard output, where the refusal is told",
+    )],
+    operands: Some(Value::File("BOOK")),
     run,
 };
 
 /// The library's file, held to the book, and what is told of the book's refusal; or why there is
 /// none.
-fn file_of(bytes: &[u8]) -> Result<(Vec<u8>, String), String> {
+fn file_of(given: &Given) -> Result<(Vec<u8>, String), String> {
+    let bytes = &given.bytes[..];
     let mut out = [0; 24];
     let answer = market_risk::shortest(bytes, &mut out).map_err(|refusal| refusal.to_string())?;
     let file = match answer {
@@ -54,7 +71,7 @@ fn file_of(bytes: &[u8]) -> Result<(Vec<u8>, String), String> {
     };
     doubt(bytes, file).map_or(Ok(()), Err)?;
     match (file, market_risk::check(bytes)) {
-        (Some(file), Err(refusal)) => Ok((file.to_vec(), explain(bytes, &refusal))),
+        (Some(file), Err(refusal)) => Ok((file.to_vec(), explain(given, &refusal))),
         _ => Err("accepted: there is no refusal to show, and nothing is written".into()),
     }
 }
@@ -74,8 +91,8 @@ fn run(args: &Args) -> Outcome {
         return Err(usage(why));
     }
     apart(to, &[from])?;
-    let bytes = read_book(from)?;
-    let (file, told) = file_of(&bytes).map_err(|why| no(format!("{}: {why}", input(from))))?;
+    let given = read_book(from)?;
+    let (file, told) = file_of(&given).map_err(|why| no(format!("{}: {why}", input(from))))?;
     write(to, &file)?;
-    print(&format!("{told}\n{}", line(to, &file, &bytes)))
+    print(&format!("{told}\n{}", line(to, &file, &given.bytes)))
 }

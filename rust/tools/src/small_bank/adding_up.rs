@@ -67,11 +67,10 @@ mod tests {
             gold: position(0, 35),
             commodities: Positions::from([(0, position(10, 0)), (5, position(1_400, 1_600))]),
         };
-        let charged = SmallBank {
-            exchange: 26_800_000,
-            commodity: 121_800_000,
-            total: 148_600_000,
-        };
+        let mut charged = SmallBank::default();
+        charged.exchange = 26_800_000;
+        charged.commodity = 121_800_000;
+        charged.total = 148_600_000;
         (holdings, charged)
     }
 
@@ -145,11 +144,8 @@ mod tests {
     #[test]
     fn figures_near_the_limit_are_told() {
         let all = |charged: &mut SmallBank| {
-            *charged = SmallBank {
-                exchange: u64::MAX,
-                commodity: u64::MAX,
-                total: u64::MAX - 1,
-            }
+            (charged.exchange, charged.commodity) = (u64::MAX, u64::MAX);
+            charged.total = u64::MAX - 1;
         };
         assert_eq!(told(all).len(), 3);
     }

@@ -4,11 +4,11 @@ mod adding_up;
 mod positions;
 mod tables;
 
-use crate::cli::{no, Args, Command, Outcome};
-use crate::files::{input, print, read_book};
-use crate::lines::{hold, show};
+use crate::cli::{no, Args, Command, Outcome, Part, Value};
+use crate::files::{input, print};
+use crate::lines::{hold, show, Line};
+use crate::load::read_book;
 use crate::report::explain;
-use crate::text::{mils, table};
 use adding_up::lines;
 use books::Book;
 use market_risk::SmallBank;
@@ -17,42 +17,43 @@ use positions::Holdings;
 pub const COMMAND: Command = Command {
     name: "small-bank",
     brief: "the charges of a bank with only foreign exchange and commodities",
-    help: "market-risk small-bank BOOK
-
-Prints the charges of a book of foreign exchange and commodities, and their total, in
-currency units, to the mil. Foreign exchange is charged as by market-risk report, the
-commodities by the Amendment's simplified method: 15% of each commodity's net and 3% of
-its gross, whatever the days of its rows.
-
-Below stand the positions, in thousands, so that the charges can be checked by hand: of
-each currency that has rows its longs, shorts and net, then gold; of each commodity its
-longs, shorts, net without its sign, gross and charge. Last come the lines by which the
-charges add up:
-
-  foreign exchange   8% of the greater of the summed net longs and the summed net shorts
-                     without gold, and 8% of gold's net
-  commodity          15% of the summed nets and 3% of the summed gross positions
-  total              the sum of both
-
-The three charges are the proved library's. The rows are added up here, and the command
-fails if a line does not hold, or if the library charges a book that has interest or equity
-rows. Such a book is refused with 20. A refused book is explained in words, and the exit
-status is 1.
-",
+    forms: &["BOOK"],
+    about: &[
+        Part::Text(
+            "Prints the charges of a book of foreign exchange and commodities, and their \
+             total, in currency units, to the mil. Foreign exchange is charged as by \
+             market-risk report, the commodities by the Amendment's simplified method: 15% of \
+             each commodity's net and 3% of its gross, whatever the days of its rows.",
+        ),
+        Part::Text(
+            "Below stand the positions, in thousands, so that the charges can be checked by \
+             hand: of each currency that has rows its longs, shorts and net, then gold; of \
+             each commodity its longs, shorts, net without its sign, gross and charge. Last \
+             come the lines by which the charges add up:",
+        ),
+        Part::Words(&[
+            (
+                "foreign exchange",
+                "8% of the greater of the summed net longs and the summed net shorts without \
+                 gold, and 8% of gold's net",
+            ),
+            (
+                "commodity",
+                "15% of the summed nets and 3% of the summed gross positions",
+            ),
+            ("total", "the sum of both"),
+        ]),
+        Part::Text(
+            "The three charges are the proved library's. The rows are added up here, and the \
+             command fails if a line does not hold, or if the library charges a book that has \
+             interest or equity rows. Such a book is refused with 20. A refused book is \
+             explained in words, and the exit status is 1.",
+        ),
+    ],
     options: &[],
-    flags: &[],
+    operands: Some(Value::File("BOOK")),
     run,
 };
-
-/// The charges as a table.
-fn figures(charged: &SmallBank) -> String {
-    let lines = [
-        ("foreign exchange", charged.exchange),
-        ("commodity", charged.commodity),
-        ("total", charged.total),
-    ];
-    table(&lines.map(|(name, value)| vec![name.to_string(), mils(value)]))
-}
 
 /// Interest or equity rows of a book that was charged.
 fn stray(book: &Book) -> Option<String> {
@@ -61,13 +62,19 @@ fn stray(book: &Book) -> Option<String> {
     stray.then(|| format!("the library charged {interest} interest and {equity} equity rows"))
 }
 
+/// The lines by which a book's charges add up, or all that cannot be true of them.
+pub fn checked(book: &Book, charged: &SmallBank) -> Result<Vec<Line>, String> {
+    let lines = lines(&Holdings::new(book), charged);
+    hold(stray(book), &lines)?;
+    Ok(lines)
+}
+
 /// What is printed of a book's charges, or all that cannot be true of them.
 fn text(book: &Book, charged: &SmallBank) -> Result<String, String> {
+    let lines = checked(book, charged)?;
     let holdings = Holdings::new(book);
-    let lines = lines(&holdings, charged);
-    hold(stray(book), &lines)?;
     let parts = [
-        figures(charged),
+        format!("{charged}\n"),
         "amounts in thousands, charges in currency units\n".into(),
         tables::currencies(&holdings),
         tables::commodities(&holdings),
@@ -78,10 +85,11 @@ fn text(book: &Book, charged: &SmallBank) -> Result<String, String> {
 
 fn run(args: &Args) -> Outcome {
     let [path] = args.files()?;
-    let bytes = read_book(path)?;
-    let charged = market_risk::small_bank(&bytes).map_err(|refusal| explain(&bytes, &refusal));
-    let book = Book::decode(&bytes).unwrap_or_default();
-    let text = charged.and_then(|charged| text(&book, &charged));
+    let given = read_book(path)?;
+    let charged = market_risk::small_bank(&given.bytes);
+    let explained = charged.map_err(|refusal| explain(&given, &refusal));
+    let book = Book::decode(&given.bytes).unwrap_or_default();
+    let text = explained.and_then(|charged| text(&book, &charged));
     print(&text.map_err(|why| no(format!("{}: {why}", input(path))))?)
 }
 
@@ -110,7 +118,7 @@ mod tests {
     #[test]
     fn charges_come_first_and_lines_last() {
         let expected = "\
-foreign exchange   8,000.000
+                        foreign exchange   8,000.000
 commodity         10,800.000
 total             18,800.000
 

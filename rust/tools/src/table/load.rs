@@ -48,14 +48,21 @@ pub struct Loaded {
     name: Option<String>,
 }
 
+impl Default for Loaded {
+    /// Document 01's, which is not read.
+    fn default() -> Loaded {
+        Loaded {
+            table: Table::amendment(),
+            name: None,
+        }
+    }
+}
+
 impl Loaded {
     /// The table that the option --table names, else document 01's.
     pub fn new(args: &Args, book: &Path) -> Result<Loaded, Failure> {
         let Some(path) = args.path("--table") else {
-            return Ok(Loaded {
-                table: Table::amendment(),
-                name: None,
-            });
+            return Ok(Loaded::default());
         };
         once(&[book, path])?;
         Ok(Loaded {

@@ -1,48 +1,62 @@
 //! `table`: a table of interest weights and ladder per cents, from one form into the other.
 
 mod conditions;
+mod json;
 mod load;
 
-use crate::cli::{usage, Args, Command, Failure, Outcome};
+use crate::cli::{usage, Args, Choice, Command, Failure, Outcome, Part, Value};
 use crate::files::{apart, write};
 use load::{read_table, text_of, Form};
 use market_risk::Table;
 use std::path::Path;
 
+pub use json::json;
 pub use load::Loaded;
 
 pub const COMMAND: Command = Command {
     name: "table",
     brief: "a table of interest weights and per cents: bytes into text, or back",
-    help: "market-risk table [FILE] [--text | --bytes] [--out FILE]
-
-Reads a table, which is 36 bytes or text, and writes it in the other form. Without a file
-it writes document 01's table, as text. The option --table of report and ladder takes
-either form. The text has seven lines, in this order:
-
-  weights    the weights of bands 0 to 14: fifteen whole numbers, in basis points
-  vertical   the per cent within a band
-  zone-1     the per cents within zones 1, 2 and 3
-  zone-2
-  zone-3
-  adjacent   the per cent between zones 1 and 2, and between zones 2 and 3
-  zones-1-3  the per cent between zones 1 and 3
-
-Blank lines and lines that begin with # are passed over. Of the 36 bytes, 30 are the
-weights, two bytes each, low byte first, and six are the per cents.
-
-A table must have weights that never fall and are at most 2,000, vertical at most each
-zone's per cent, each zone's at most adjacent, adjacent at most zones-1-3, and that at most
-100. Any other is refused with 18 or 19 and told with each condition that it breaks; the
-exit status is then 1. The number is the proved library's, the conditions are looked at
-here too, and the command fails if the two do not agree.
-
-  --text      write text
-  --bytes     write 36 bytes
-  --out FILE  write there and not to standard output
-",
-    options: &["--out"],
-    flags: &["--text", "--bytes"],
+    forms: &["[FILE] [--text | --bytes] [--out FILE]"],
+    about: &[
+        Part::Text(
+            "Reads a table, which is 36 bytes or text, and writes it in the other form. \
+             Without a file it writes document 01's table, as text. The option --table of \
+             report and ladder takes either form. The text has seven lines, in this order:",
+        ),
+        Part::Words(&[
+            (
+                "weights",
+                "the weights of bands 0 to 14: fifteen whole numbers, in basis points",
+            ),
+            ("vertical", "the per cent within a band"),
+            ("zone-1", "the per cent within zone 1"),
+            ("zone-2", "the per cent within zone 2"),
+            ("zone-3", "the per cent within zone 3"),
+            (
+                "adjacent",
+                "the per cent between zones 1 and 2, and between zones 2 and 3",
+            ),
+            ("zones-1-3", "the per cent between zones 1 and 3"),
+        ]),
+        Part::Text(
+            "Blank lines and lines that begin with # are passed over. Of the 36 bytes, 30 are \
+             the weights, two bytes each, low byte first, and six are the per cents.",
+        ),
+        Part::Text(
+            "A table must have weights that never fall and are at most 2,000, vertical at most \
+             each zone's per cent, each zone's at most adjacent, adjacent at most zones-1-3, \
+             and that at most 100. Any other is refused with 18 or 19 and told with each \
+             condition that it breaks; the exit status is then 1. The number is the proved \
+             library's, the conditions are looked at here too, and the command fails if the \
+             two do not agree.",
+        ),
+    ],
+    options: &[
+        Choice::flag("--text", "write text"),
+        Choice::flag("--bytes", "write 36 bytes"),
+        Choice::file("--out", "FILE", "write there and not to standard output"),
+    ],
+    operands: Some(Value::File("FILE")),
     run,
 };
 

@@ -44,26 +44,33 @@ mod stream;
 mod tables;
 mod worked;
 
-use crate::cli::{no, usage, Args, Command, Outcome};
+use crate::cli::{no, usage, Args, Choice, Command, Outcome, Part};
 use crate::files::{print, read, write};
 use build::Case;
 
 pub const COMMAND: Command = Command {
     name: "vectors",
     brief: "the stored input and expected output of the program vectors",
-    help: "market-risk vectors [--seed S] --write DIR
-market-risk vectors [--seed S] --check DIR
-
-Makes the calls of the program vectors: DIR/stdin, a stream of calls with their books,
-and DIR/stdout, one line a call, as the second calculation answers it. docs/VECTORS.md
-has the form of both.
-
-  --seed S      the seed of the random books and tables among them, 1 if not given
-  --write DIR   write both files
-  --check DIR   exit with status 1 if either file is not what --write would write
-",
-    options: &["--seed", "--write", "--check"],
-    flags: &[],
+    forms: &["[--seed S] --write DIR", "[--seed S] --check DIR"],
+    about: &[Part::Text(
+        "Makes the calls of the program vectors: DIR/stdin, a stream of calls with their \
+         books, and DIR/stdout, one line a call, as the second calculation answers it. \
+         docs/VECTORS.md has the form of both.",
+    )],
+    options: &[
+        Choice::number(
+            "--seed",
+            "S",
+            "the seed of the random books and tables among them, 1 if not given",
+        ),
+        Choice::folder("--write", "DIR", "write both files"),
+        Choice::folder(
+            "--check",
+            "DIR",
+            "exit with status 1 if either file is not what --write would write",
+        ),
+    ],
+    operands: None,
     run,
 };
 

@@ -11,7 +11,8 @@ fn band_lines(book: &Book, group: usize, ladder: &CommodityLadder) -> Vec<String
     let rows = &book.classes[3];
     let own = rows.iter().filter(|row| usize::from(row.group) == group);
     let (mut net, mut matches, mut carried) = (0i128, 0, 0);
-    let mut lines = Vec::new();
+    let mut lines = vec!["band days long short".to_string()];
+    let mut below = vec!["".into(), "band carried in matched net".into()];
     for band in 0..7 {
         let inside = |days: u16| commodity_band(days.into()) == band;
         let (long, short) = sides(own.clone().filter(|row| inside(row.days)));
@@ -25,12 +26,13 @@ fn band_lines(book: &Book, group: usize, ladder: &CommodityLadder) -> Vec<String
         matches += matched;
         carried += carried_in.abs();
         let days = span(commodity_band, band);
-        let cells = [long, short, carried_in, matched, net].map(amount);
-        lines.push(format!("{band} {days} {}", cells.join(" ")));
+        lines.push(format!("{band} {days} {} {}", amount(long), amount(short)));
+        let cells = [carried_in, matched, net].map(amount);
+        below.push(format!("{band} {}", cells.join(" ")));
     }
     let sums = [ladder.matches, ladder.carried, ladder.residual].map(i128::from);
     assert_eq!([matches, carried, net.abs()], sums);
-    lines
+    [lines, below].concat()
 }
 
 /// The lines of the charge: 1.5% on each side of a match, 15,000 mils a unit (A.4, 8);
@@ -109,7 +111,6 @@ pub fn commodity(book: &Book, group: usize) -> Vec<String> {
     let mut lines = vec![
         format!("commodity {group}: amounts in thousands, charges in currency units"),
         "".into(),
-        "band days long short carried in matched net".into(),
     ];
     lines.extend(band_lines(book, group, &ladder));
     lines.push("".into());

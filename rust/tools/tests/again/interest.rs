@@ -21,8 +21,8 @@ fn amounts(rows: &[Row], group: usize) -> Vec<Sides> {
     (0..15).map(one).collect()
 }
 
-/// One line of a band: zone, days of both columns, weight, amounts, weighted positions.
-fn band_line(band: usize, weight: i128, (long, short): Sides) -> String {
+/// One line of a band: zone, days of both columns, weight, amounts.
+fn amount_line(band: usize, weight: i128, (long, short): Sides) -> String {
     let cells = [
         zone_of_band(band).to_string(),
         band.to_string(),
@@ -31,12 +31,27 @@ fn band_line(band: usize, weight: i128, (long, short): Sides) -> String {
         decimal(weight, 2) + "%",
         amount(long),
         amount(short),
-        weighted(long * weight),
-        weighted(short * weight),
-        weighted(long.min(short) * weight),
-        weighted((long - short) * weight),
     ];
     cells.join(" ")
+}
+
+/// The other line of a band: weighted positions, what matches and what is left of it.
+fn weighted_line(band: usize, weight: i128, (long, short): Sides) -> String {
+    let figures = [long, short, long.min(short), long - short];
+    let figures = figures.map(|figure| weighted(figure * weight));
+    format!("{band} {}", figures.join(" "))
+}
+
+/// The lines of all bands, in both tables.
+fn band_lines(bands: &[Sides], table: &Table) -> Vec<String> {
+    let days = "coupon 3% or more below 3%";
+    let mut lines = vec![format!("zone band {days} weight long short")];
+    let drawn = || bands.iter().zip(table.weights).enumerate();
+    lines.extend(drawn().map(|(band, (sides, weight))| amount_line(band, weight, *sides)));
+    lines.push("".into());
+    lines.push("band weighted long weighted short matched net".into());
+    lines.extend(drawn().map(|(band, (sides, weight))| weighted_line(band, weight, *sides)));
+    lines
 }
 
 /// What is net long and what is net short among nets.
@@ -46,23 +61,57 @@ fn split(nets: &[i128]) -> Sides {
     (long, -short)
 }
 
-/// The sides of steps 2 and 3: three zones, then 1-2, 2-3 and 1-3 of what is left
-/// (A.1, 13). The second calculation gives the matches; the sides are worked here.
-fn step_sides(bands: &[Sides], table: &Table, matches: &[u64]) -> Vec<Sides> {
+/// The nets of the bands of each zone (A.1, 13).
+fn zone_nets(bands: &[Sides], table: &Table) -> [Vec<i128>; 3] {
     let net = |band: usize| (bands[band].0 - bands[band].1) * table.weights[band];
-    let zones = [0..4, 4..7, 7..15].map(|bands| bands.map(net).collect::<Vec<_>>());
-    let mut sides: Vec<Sides> = zones.iter().map(|nets| split(nets)).collect();
-    let mut left = zones.map(|nets| nets.iter().sum::<i128>());
-    for (pair, matched) in [[0, 1], [1, 2], [0, 2]].iter().zip(&matches[3..]) {
-        sides.push(split(&pair.map(|zone| left[zone])));
-        for zone in pair {
-            left[*zone] -= left[*zone].signum() * i128::from(*matched);
+    [0..4, 4..7, 7..15].map(|bands| bands.map(net).collect())
+}
+
+/// The lines of the zones. The second calculation gives the matches; the sides are worked here.
+fn zone_lines(nets: &[Vec<i128>; 3], matches: &[u64]) -> Vec<String> {
+    let mut lines = vec!["step long short net".to_string()];
+    for (zone, (nets, matched)) in nets.iter().zip(matches).enumerate() {
+        let (long, short) = split(nets);
+        assert_eq!(long.min(short), i128::from(*matched));
+        let figures = [long, short, nets.iter().sum()].map(weighted);
+        lines.push(format!("within zone {} {}", zone + 1, figures.join(" ")));
+    }
+    lines
+}
+
+/// A zone with its side and what it has, without its sign.
+fn before(zone: usize, left: i128) -> String {
+    let side = match left {
+        1.. => "long",
+        0 => "zero",
+        _ => "short",
+    };
+    format!("{} {side} {}", zone + 1, weighted(left.abs()))
+}
+
+/// The lines of 1-2, 2-3 and 1-3 of what is left (A.1, 13): a match wants one zone on each side.
+fn match_lines(nets: &[Vec<i128>; 3], matches: &[u64]) -> Vec<String> {
+    let mut left: Vec<i128> = nets.iter().map(|nets| nets.iter().sum()).collect();
+    let mut lines = vec!["step zone net before zone net before matched".to_string()];
+    for ([one, other], matched) in [[0, 1], [1, 2], [0, 2]].into_iter().zip(matches) {
+        let matched = i128::from(*matched);
+        let opposite = left[one].signum() * left[other].signum() < 0;
+        assert_eq!(matched > 0, opposite);
+        let zones = format!("{} {}", before(one, left[one]), before(other, left[other]));
+        let told = match opposite {
+            true => weighted(matched),
+            false => "nothing".into(),
+        };
+        lines.push(format!(
+            "zones {} and {} {zones} {told}",
+            one + 1,
+            other + 1
+        ));
+        for zone in [one, other] {
+            left[zone] -= left[zone].signum() * matched;
         }
     }
-    for ((long, short), matched) in sides.iter().zip(matches) {
-        assert_eq!(*long.min(short), i128::from(*matched));
-    }
-    sides
+    lines
 }
 
 /// The steps of zones and pairs of zones (A.1, 13) with a table's per cents.
@@ -77,8 +126,27 @@ fn horizontal(table: &Table) -> [(&'static str, i128); 6] {
     ]
 }
 
-/// The lines of the steps: within bands (A.1, 12), horizontal, 100% of the residual (A.1, 8).
-fn step_lines(bands: &[Sides], table: &Table, ladder: &InterestLadder) -> Vec<String> {
+/// The lines of what is charged: within bands (A.1, 12), horizontal, 100% of the residual (A.1, 8).
+fn charge_lines(table: &Table, ladder: &InterestLadder, matches: [u64; 6]) -> Vec<String> {
+    let charged = |position: u64, per_cent: i128| {
+        let position = i128::from(position);
+        let charge = mils(position * per_cent);
+        format!("{} {per_cent}% {charge}", weighted(position))
+    };
+    let mut lines = vec![
+        "step matched per cent disallowance".to_string(),
+        format!("within bands {}", charged(ladder.vertical, table.vertical)),
+    ];
+    for ((name, per_cent), matched) in horizontal(table).into_iter().zip(matches) {
+        lines.push(format!("{name} {}", charged(matched, per_cent)));
+    }
+    lines.push(format!("residual {}", charged(ladder.residual, 100)));
+    lines.push(format!("charge {}", mils(ladder.charge)));
+    lines
+}
+
+/// The lines of the zones, of the matches between them and of what is charged.
+fn step_lines(bands: &[Sides], table: &Table, ladder: &InterestLadder) -> [Vec<String>; 3] {
     let matches = [
         ladder.zone_1,
         ladder.zone_2,
@@ -87,25 +155,12 @@ fn step_lines(bands: &[Sides], table: &Table, ladder: &InterestLadder) -> Vec<St
         ladder.zones_2_3,
         ladder.zones_1_3,
     ];
-    let charged = |position: u64, per_cent: i128| {
-        let position = i128::from(position);
-        let charge = mils(position * per_cent);
-        format!("{} {per_cent}% {charge}", weighted(position))
-    };
-    let mut lines = vec![
-        "step long short matched per cent disallowance".to_string(),
-        format!("within bands {}", charged(ladder.vertical, table.vertical)),
-    ];
-    let sides = step_sides(bands, table, &matches);
-    let steps = horizontal(table).into_iter().zip(sides).zip(matches);
-    for (((name, per_cent), (long, short)), matched) in steps {
-        let (long, short) = (weighted(long), weighted(short));
-        let charged = charged(matched, per_cent);
-        lines.push(format!("{name} {long} {short} {charged}"));
-    }
-    lines.push(format!("residual {}", charged(ladder.residual, 100)));
-    lines.push(format!("charge {}", mils(ladder.charge)));
-    lines
+    let nets = zone_nets(bands, table);
+    [
+        zone_lines(&nets, &matches[..3]),
+        match_lines(&nets, &matches[3..]),
+        charge_lines(table, ladder, matches),
+    ]
 }
 
 /// The weighted longs and the weighted shorts of a currency, row by row.
@@ -166,17 +221,12 @@ pub fn interest(book: &Book, table: &[u8], group: usize) -> Vec<String> {
     let ladder = second::interest_ladder(&book.encode().unwrap(), table, group);
     let table = read_table(table).unwrap();
     let units = "amounts in thousands, weighted positions and charges in currency units";
-    let titles = "zone band coupon 3% or more below 3% weight long short \
-                  weighted long weighted short matched net";
-    let mut lines = vec![
-        format!("currency {group}: {units}"),
-        "".into(),
-        titles.into(),
-    ];
-    let drawn = bands.iter().zip(table.weights).enumerate();
-    lines.extend(drawn.map(|(band, (sides, weight))| band_line(band, weight, *sides)));
-    lines.push("".into());
-    lines.extend(step_lines(&bands, &table, &ladder));
+    let mut lines = vec![format!("currency {group}: {units}"), "".into()];
+    lines.extend(band_lines(&bands, &table));
+    for part in step_lines(&bands, &table, &ladder) {
+        lines.push("".into());
+        lines.extend(part);
+    }
     lines.push("".into());
     let sides = weighted_sides(&book.classes[0], group, &table);
     lines.extend(adding_up_lines(sides, &ladder));

@@ -1,5 +1,6 @@
 //! The lines of reports, ladders, least trades, small banks and options calculated again, from document 01's bands, a table's
 //! weights and per cents, and the second calculation. Nothing here is the command's own code.
+#![allow(dead_code)]
 
 mod commodity;
 mod interest;

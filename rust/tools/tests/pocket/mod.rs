@@ -14,6 +14,21 @@ pub fn stored(wanted: impl Fn(&str) -> bool) -> Vec<(String, String)> {
         .collect()
 }
 
+/// A text with each line that begins with a sign put behind the one above.
+pub fn unfolded(text: &str) -> String {
+    let mut lines: Vec<String> = Vec::new();
+    for line in text.lines() {
+        let begins = line.trim_start();
+        match lines.last_mut() {
+            Some(above) if begins.starts_with(['+', '-']) && begins != line => {
+                *above += &format!(" {begins}");
+            }
+            _ => lines.push(line.into()),
+        }
+    }
+    lines.join("\n") + "\n"
+}
+
 /// A printed number in thousandths; nothing for any other word.
 pub fn number(word: &str) -> Option<i128> {
     let (sign, digits) = match word.strip_prefix('-') {
@@ -95,4 +110,28 @@ pub fn column(lines: &[&str], from_end: usize) -> i128 {
 pub fn last(lines: &[&str], name: &str) -> i128 {
     let line = lines.iter().find(|line| line.starts_with(name)).unwrap();
     *numbers(line).last().unwrap()
+}
+
+/// The last numbers of a line, in thousandths.
+pub fn end<const N: usize>(line: &str) -> [i128; N] {
+    let numbers = numbers(line);
+    numbers[numbers.len() - N..].try_into().unwrap()
+}
+
+/// The stored ladders of currencies, or of commodities, with their names.
+pub fn ladders(of: &str) -> Vec<(String, String)> {
+    let stored = stored(|name| name.contains(&format!(".{of}-")));
+    let unfolded = |(name, text): (String, String)| (name, unfolded(&text));
+    stored.into_iter().map(unfolded).collect()
+}
+
+/// The last parts of a printed ladder: tables without their titles, and the last lines. A loaded table
+/// is told of above the title.
+pub fn parts<const N: usize>(text: &str) -> [Vec<&str>; N] {
+    let parts: Vec<&str> = text.split("\n\n").collect();
+    let first = parts.len() - N;
+    std::array::from_fn(|at| {
+        let titles = usize::from(at + 1 < N);
+        parts[first + at].lines().skip(titles).collect()
+    })
 }

@@ -1,4 +1,5 @@
 //! The texts in samples/expected: what each is printed of, and its lines calculated again.
+#![allow(dead_code)]
 
 use crate::again;
 use crate::common::{packed, prints_in, sample};
@@ -83,7 +84,7 @@ fn prints_of(book: &Book) -> Vec<Print> {
 /// what is printed of it.
 pub struct Stored {
     sample: String,
-    book: Book,
+    pub book: Book,
     table: Option<Vec<u8>>,
     pub print: Print,
 }
@@ -110,6 +111,11 @@ impl Stored {
 
     /// What the command prints now.
     pub fn printed(&self) -> String {
+        self.printed_with(&[])
+    }
+
+    /// What it prints with more options.
+    pub fn printed_with(&self, more: &[&str]) -> String {
         let file = match self.print {
             Print::Options => format!("{}.csv", self.sample),
             _ => packed(&self.sample, &self.name()),
@@ -135,13 +141,19 @@ impl Stored {
         if self.table.is_some() {
             words.extend(["--table", &table]);
         }
+        words.extend(more);
         prints_in(&samples(), &words)
+    }
+
+    /// The bytes of the table that it is charged under.
+    pub fn table(&self) -> Vec<u8> {
+        let table = self.table.clone();
+        table.unwrap_or_else(|| second::table().to_vec())
     }
 
     /// The lines of it, calculated again.
     pub fn again(&self) -> Vec<String> {
-        let amendment = second::table().to_vec();
-        let table = self.table.as_ref().unwrap_or(&amendment);
+        let table = &self.table();
         let name = format!("{}.table", self.sample);
         let note = self.table.as_ref().map(|table| again::note(&name, table));
         let figures = match self.print {

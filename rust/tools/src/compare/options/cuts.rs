@@ -96,9 +96,12 @@ fn less(number: u32) -> impl Iterator<Item = u32> {
     [0, 1].into_iter().chain(powers)
 }
 
+/// Gives a field of an option another number.
+type Set = fn(&mut OptionRow, u32);
+
 /// An option with one field made plain, or smaller.
 fn plainer_one(option: OptionRow) -> impl Iterator<Item = OptionRow> {
-    let with = move |set: fn(&mut OptionRow, u32), number: u32| {
+    let with = move |set: Set, number: u32| {
         let mut plain = option;
         set(&mut plain, number);
         plain
@@ -112,7 +115,7 @@ fn plainer_one(option: OptionRow) -> impl Iterator<Item = OptionRow> {
         with(|option, _| option.right = 2, 0),
         with(|option, _| option.kind = plain_kind(option.class), 0),
     ];
-    let numbers: [(u32, fn(&mut OptionRow, u32)); 6] = [
+    let numbers: [(u32, Set); 6] = [
         (option.amount, |option, less| option.amount = less),
         (option.delta.into(), |option, less| {
             option.delta = less as u16

@@ -13,7 +13,7 @@ struct Sum {
 /// What is signed, where calls or bought options count as positive.
 fn signed(option: &OptionRow, by_call: bool, number: u64) -> i128 {
     let positive = match by_call {
-        true => option.right % 2 == 0,
+        true => option.right.is_multiple_of(2),
         false => option.right < 2,
     };
     let number = i128::from(number);

@@ -72,12 +72,14 @@ mod tests {
     }
 
     /// What a right library gives of E5.
-    const LADDER: CommodityLadder = CommodityLadder {
-        matches: 1_400,
-        carried: 1_200,
-        residual: 200,
-        charge: 79_200_000,
-    };
+    fn ladder() -> CommodityLadder {
+        let mut ladder = CommodityLadder::default();
+        ladder.matches = 1_400;
+        ladder.carried = 1_200;
+        ladder.residual = 200;
+        ladder.charge = 79_200_000;
+        ladder
+    }
 
     /// How the charge of E5 is made up.
     const PARTS: &str =
@@ -85,7 +87,7 @@ mod tests {
 
     /// What does not hold of E5 after a change of its ladder.
     fn told(change: impl Fn(&mut CommodityLadder)) -> Vec<String> {
-        let mut ladder = LADDER;
+        let mut ladder = ladder();
         change(&mut ladder);
         let told = broken(&commodity(&rows(), 5, &ladder)).collect::<Vec<_>>();
         let what = |line: &String| line.strip_prefix("does not add up: ").unwrap().into();
@@ -94,15 +96,18 @@ mod tests {
 
     #[test]
     fn e5_adds_up() {
-        let charge = format!("charge    79,200.000  = {PARTS}");
+        let (two, third) = PARTS.rsplit_once(" + ").unwrap();
+        let charge = format!("charge    79,200.000  = {two}");
+        let below = format!("{:24}+ {third}", "");
         let lines = [
             "gross          3,000  = 2 x 1,400 matched + 200 residual",
             "gross          3,000  = 1,400 long + 1,600 short",
             "residual         200  = 1,600 short - 1,400 long",
             "carried        1,200  = 0 + 0 + 200 + 200 + 400 + 400",
             &charge,
+            &below,
         ];
-        let text = show(&commodity(&rows(), 5, &LADDER));
+        let text = show(&commodity(&rows(), 5, &ladder()));
         assert_eq!(text.lines().collect::<Vec<_>>(), lines);
         assert_eq!(told(|_| ()), [""; 0]);
     }
@@ -154,7 +159,7 @@ mod tests {
     fn steps_are_taken_at_the_last_days_of_the_bands() {
         for (step, last) in [30, 90, 180, 360, 720, 1080].into_iter().enumerate() {
             for (days, first) in [(last, step), (last + 1, step + 1)] {
-                let text = show(&commodity(&[row(days, 0, 1)], 5, &LADDER));
+                let text = show(&commodity(&[row(days, 0, 1)], 5, &ladder()));
                 let steps: Vec<&str> = (0..6)
                     .map(|at| ["0", "1"][usize::from(at >= first)])
                     .collect();
@@ -167,13 +172,9 @@ mod tests {
     /// Catches sums that wrap.
     #[test]
     fn figures_near_the_limit_are_told() {
+        const MOST: u64 = u64::MAX;
         let all = |ladder: &mut CommodityLadder| {
-            *ladder = CommodityLadder {
-                matches: u64::MAX,
-                carried: u64::MAX,
-                residual: u64::MAX,
-                charge: u64::MAX,
-            }
+            *ladder = CommodityLadder::of(&[0, 0, 0, MOST, MOST, MOST, MOST]).unwrap();
         };
         assert_eq!(told(all).len(), 4);
     }

@@ -73,20 +73,18 @@ mod tests {
     }
 
     /// What a right library gives of it: zones 1 and 2 match, zone 3 is left.
-    const LADDER: InterestLadder = InterestLadder {
-        gross: 15_750,
-        vertical: 0,
-        zones: [0; 3],
-        zones_1_2: 5_250,
-        zones_2_3: 0,
-        zones_1_3: 0,
-        residual: 5_250,
-        charge: 735_000,
-    };
+    fn ladder() -> InterestLadder {
+        let mut ladder = InterestLadder::default();
+        ladder.gross = 15_750;
+        ladder.zones_1_2 = 5_250;
+        ladder.residual = 5_250;
+        ladder.charge = 735_000;
+        ladder
+    }
 
     /// What does not hold of the keyed book after a change of its ladder.
     fn told(change: impl Fn(&mut InterestLadder)) -> Vec<String> {
-        let mut ladder = LADDER;
+        let mut ladder = ladder();
         change(&mut ladder);
         let told = broken(&interest(&keyed(), 7, &Table::amendment(), &ladder)).collect::<Vec<_>>();
         let what = |line: &String| line.strip_prefix("does not add up: ").unwrap().into();
@@ -102,7 +100,7 @@ mod tests {
             "charge        735.000  >= 525.0 residual",
             "2 x charge  1,470.000  <= 1,575.0 gross + 525.0 residual",
         ];
-        let text = show(&interest(&keyed(), 7, &Table::amendment(), &LADDER));
+        let text = show(&interest(&keyed(), 7, &Table::amendment(), &ladder()));
         assert_eq!(text.lines().collect::<Vec<_>>(), lines);
         assert_eq!(told(|_| ()), [""; 0]);
     }
@@ -243,22 +241,14 @@ mod tests {
     /// Catches sums that wrap: a residual with its sign may stand for a very large one.
     #[test]
     fn figures_near_the_limit_are_told() {
-        let most = u64::MAX;
         assert_eq!(
             told(|ladder| ladder.residual = 0u64.wrapping_sub(5_250)).len(),
             2
         );
         let all = |ladder: &mut InterestLadder| {
-            *ladder = InterestLadder {
-                gross: most,
-                vertical: most,
-                zones: [most; 3],
-                zones_1_2: most,
-                zones_2_3: most,
-                zones_1_3: most,
-                residual: most,
-                charge: most,
-            }
+            let mut entries = [u64::MAX; 13];
+            entries[0] = 0;
+            *ladder = InterestLadder::of(&entries).unwrap();
         };
         assert_eq!(told(all).len(), 4);
     }

@@ -70,7 +70,7 @@ impl Curve<'_> {
 
     /// The whole amounts at each place where a net changes its sign, and so the charge its slope. Between
     /// two such places the charge runs straight.
-    fn turns(&self) -> Vec<u64> {
+    pub fn turns(&self) -> Vec<u64> {
         let weight = i128::from(self.table.weights()[self.band]);
         let against = |net: i128| match self.side {
             Side::Long => -net,

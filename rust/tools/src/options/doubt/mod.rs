@@ -12,7 +12,7 @@ use crate::written::unlike;
 use books::options::names::class_names;
 use books::options::OptionRow;
 use books::Book;
-use market_risk::{Options, Report, Table};
+use market_risk::{Report, Table};
 
 /// Another length than the rows have, bytes that are no book, or other rows.
 fn rows(options: &[OptionRow], answer: &Answer) -> Vec<String> {
@@ -84,29 +84,15 @@ fn sums(groups: &[Alone]) -> [Greeks; 3] {
     sums
 }
 
-/// The charges that the library tells of its book, as a report has them.
-fn told(options: &Options, report: &Report) -> Report {
-    Report {
-        interest_specific: options.interest_specific,
-        interest_general: options.interest_general,
-        equity_specific: options.equity_specific,
-        equity_general: options.equity_general,
-        exchange: options.exchange,
-        commodity: options.commodity,
-        total: options.total,
-        ..*report
-    }
-}
-
 /// Charges that the library tells of its book and that are others where it charges the book, or that
 /// cannot be those of the book.
 fn charges(answer: &Answer, report: &Report) -> Vec<String> {
-    let told = report::named(&told(&answer.told, report));
     let of = |((name, told), (_, charge)): ((&str, u64), (&str, u64))| {
         let pair = [told, charge].map(i128::from);
         figure(name, pair, "its charge of the book")
     };
-    let differing = told.into_iter().zip(report::named(report)).filter_map(of);
+    let told = answer.told.named().into_iter();
+    let differing = told.zip(report.named()).filter_map(of);
     let book = Book::decode(&answer.file).unwrap_or_default();
     differing.chain(report::doubt(&book, report)).collect()
 }

@@ -1,9 +1,10 @@
 //! Answers that are changed, each of which must be told.
 
 use super::*;
+use crate::load::option_table;
 use crate::options::ask::{of_table, of_underlyings};
-use crate::options::load::Given;
 use books::options::decode;
+use market_risk::Options;
 
 /// Two shares of one market, an index of another, a currency, and C.4's commodity.
 const TEXT: &str = "class,group,right,kind,amount,delta,gamma,vega,volatility,days
@@ -16,7 +17,7 @@ commodity,4,sold call,none,25000,7210,170,84,2000,1081
 
 /// The library's answers, which can be so.
 fn right() -> (Vec<OptionRow>, Answer, Vec<Alone>) {
-    let given = Given::of_text(TEXT).unwrap();
+    let given = option_table(TEXT).unwrap();
     let options = decode(&given.bytes).unwrap();
     let (answer, groups) = (of_table(&given), of_underlyings(&options));
     (options, answer.unwrap(), groups.unwrap())
@@ -160,8 +161,8 @@ fn other_charges_are_told() {
     let interest = told(|answer, _| answer.told.interest_general = 1);
     assert!(interest[0].starts_with("interest general is by the library 0.001, "));
     let (_, answer, _) = right();
-    let report = market_risk::charge(&answer.file, &Table::amendment()).unwrap();
-    let wrong = Report { taken: 4, ..report };
+    let mut wrong = market_risk::charge(&answer.file, &Table::amendment()).unwrap();
+    wrong.taken = 4;
     let why = "the file has 5 rows, the library took 4";
     assert_eq!(charges(&answer, &wrong), [why]);
 }

@@ -1,128 +1,87 @@
-//! The interest ladder of one currency as a table.
+//! The ladder of one currency: its figures are the library's, and its rows lead to them.
+
+mod listed;
+mod text;
 
 use super::adding_up;
-use super::bands::{span, LOW_COUPON, ORDINARY, ZONES};
 use super::steps::{amounts, cross_check, steps, weigh, Sides, Step};
 use crate::lines::{hold, Line};
-use crate::text::{mils, places, table, weighted, whole};
 use books::Row;
 use market_risk::{InterestLadder, Table};
 
-/// The table of bands: their weights, amounts and weighted positions.
-fn band_table(weights: &[u16; 15], amounts: &[Sides; 15], bands: &[Sides; 15]) -> String {
-    let titles = [
-        "zone",
-        "band",
-        "coupon 3% or more",
-        "below 3%",
-        "weight",
-        "long",
-        "short",
-        "weighted long",
-        "weighted short",
-        "matched",
-        "net",
-    ];
-    let mut lines = vec![titles.map(String::from).to_vec()];
-    for (zone, range) in ZONES.iter().enumerate() {
-        for band in range.clone() {
-            let (long, short) = bands[band];
-            lines.push(vec![
-                (zone + 1).to_string(),
-                band.to_string(),
-                span(&ORDINARY, band),
-                span(&LOW_COUPON, band),
-                places(weights[band], 2) + "%",
-                whole(amounts[band].0),
-                whole(amounts[band].1),
-                weighted(long),
-                weighted(short),
-                weighted(long.min(short)),
-                weighted(long - short),
-            ]);
-        }
+pub use text::text;
+
+/// A ladder whose figures agree with its bands.
+pub struct Interest {
+    pub group: u64,
+    pub table: Table,
+    /// The longs and shorts of each band, in thousands.
+    pub amounts: [Sides; 15],
+    /// The same times their weights.
+    pub bands: [Sides; 15],
+    pub steps: Vec<Step>,
+    pub figures: InterestLadder,
+    /// The lines by which it adds up.
+    pub lines: Vec<Line>,
+}
+
+impl Interest {
+    /// The ladder of amounts whose figures are known, or why it cannot be that.
+    pub fn of(
+        amounts: [Sides; 15],
+        group: u64,
+        table: &Table,
+        figures: &InterestLadder,
+        lines: Vec<Line>,
+    ) -> Result<Interest, String> {
+        let bands = weigh(&amounts, table);
+        let (steps, rest) = steps(&bands, &table.per_cents());
+        hold(cross_check(&bands, &steps, rest, figures).err(), &lines)?;
+        Ok(Interest {
+            group,
+            table: *table,
+            amounts,
+            bands,
+            steps,
+            figures: *figures,
+            lines,
+        })
     }
-    table(&lines)
-}
 
-/// One line of the table of steps: what a position is charged at so many per cent.
-fn step_line(name: &str, sides: Option<Sides>, matched: i128, per_cent: i128) -> Vec<String> {
-    let side = |value: Option<i128>| value.map(weighted).unwrap_or_default();
-    vec![
-        name.into(),
-        side(sides.map(|sides| sides.0)),
-        side(sides.map(|sides| sides.1)),
-        weighted(matched),
-        format!("{per_cent}%"),
-        mils(matched * per_cent),
-    ]
-}
-
-/// The table of steps, with the residual and the charge.
-fn step_table(steps: &[Step], ladder: &InterestLadder) -> String {
-    let titles = [
-        "step",
-        "long",
-        "short",
-        "matched",
-        "per cent",
-        "disallowance",
-    ];
-    let mut lines = vec![titles.map(String::from).to_vec()];
-    for step in steps {
-        lines.push(step_line(
-            step.name,
-            step.sides,
-            step.matched,
-            step.per_cent,
-        ));
+    /// The ladder of a currency by its rows and the library's figures, or where they disagree.
+    pub fn new(
+        rows: &[Row],
+        group: u64,
+        table: &Table,
+        figures: &InterestLadder,
+    ) -> Result<Interest, String> {
+        let lines = adding_up::interest(rows, group, table, figures);
+        Interest::of(amounts(rows, group), group, table, figures, lines)
     }
-    lines.push(step_line("residual", None, ladder.residual.into(), 100));
-    let mut charge = vec![String::new(); titles.len()];
-    charge[0] = "charge".into();
-    charge[titles.len() - 1] = mils(ladder.charge);
-    lines.push(charge);
-    table(&lines)
-}
 
-/// A ladder whose figures are known, as text.
-pub fn draw(
-    group: u64,
-    table: &Table,
-    amounts: &[Sides; 15],
-    ladder: &InterestLadder,
-    lines: &[Line],
-) -> String {
-    let bands = weigh(amounts, table);
-    let (steps, _) = steps(&bands, &table.per_cents());
-    format!(
-        "currency {group}: amounts in thousands, weighted positions and charges in currency units\n\n\
-         {}\n{}\n{}",
-        band_table(&table.weights(), amounts, &bands),
-        step_table(&steps, ladder),
-        adding_up::show(lines)
-    )
-}
-
-/// The ladder of one currency, or where it disagrees with the library.
-pub fn show(
-    rows: &[Row],
-    group: u64,
-    table: &Table,
-    ladder: &InterestLadder,
-) -> Result<String, String> {
-    let amounts = amounts(rows, group);
-    let bands = weigh(&amounts, table);
-    let (steps, rest) = steps(&bands, &table.per_cents());
-    let lines = adding_up::interest(rows, group, table, ladder);
-    hold(cross_check(&bands, &steps, rest, ladder).err(), &lines)?;
-    Ok(draw(group, table, &amounts, ladder, &lines))
+    /// The bands that are shown: all, or those that have positions.
+    pub fn shown(&self, hide_empty: bool) -> Vec<usize> {
+        let empty = |band: &usize| self.amounts[*band] == (0, 0);
+        (0..15)
+            .filter(|band| !(hide_empty && empty(band)))
+            .collect()
+    }
 }
 
 #[cfg(test)]
 mod tests {
     use super::*;
     use books::Book;
+
+    /// The ladder as text.
+    fn show(
+        rows: &[Row],
+        group: u64,
+        table: &Table,
+        figures: &InterestLadder,
+    ) -> Result<String, String> {
+        Interest::new(rows, group, table, figures).map(|ladder| text(&ladder, false))
+    }
 
     /// Rows of currency 7 in which every step but that between zones 1 and 3, or 2 and 3,
     /// has a match.
@@ -158,8 +117,11 @@ mod tests {
         [Table::amendment(), Table::new(&other).unwrap()]
     }
 
+    /// One figure of a ladder.
+    type Figure = fn(&mut InterestLadder) -> &mut u64;
+
     /// Each figure of a ladder, by the name that its check has.
-    const FIGURES: [(&str, fn(&mut InterestLadder) -> &mut u64); 10] = [
+    const FIGURES: [(&str, Figure); 10] = [
         ("gross", |ladder| &mut ladder.gross),
         ("within bands", |ladder| &mut ladder.vertical),
         ("within zone 1", |ladder| &mut ladder.zones[0]),
@@ -226,8 +188,9 @@ mod tests {
         let squeezed = |line: &str| line.split_whitespace().collect::<Vec<_>>().join(" ");
         let lines: Vec<String> = text.lines().map(squeezed).collect();
         for line in [
-            "1 3 181-360 181-360 0.56% 100 0 560.0 0.0 0.0 560.0",
-            "3 14 - over 7,200 2.21% 0 0 0.0 0.0 0.0 0.0",
+            "1 3 181-360 181-360 0.56% 100 0",
+            "3 560.0 0.0 0.0 560.0",
+            "3 14 - over 7,200 2.21% 0 0",
             "within bands 10.4 5% 0.520",
         ] {
             assert!(

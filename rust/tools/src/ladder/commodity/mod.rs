@@ -1,20 +1,35 @@
-//! The ladder of one commodity as a table.
+//! The ladder of one commodity: its figures are the library's, and its rows lead to them.
 
-use super::bands::{band, span, COMMODITY};
+mod charged;
+mod listed;
+mod text;
+
+use super::bands::{band, COMMODITY};
 use super::{adding_up, same};
-use crate::lines::hold;
-use crate::text::{mils, table, whole};
+use crate::lines::{hold, Line};
 use books::Row;
 use market_risk::CommodityLadder;
 
+pub use charged::Charged;
+pub use text::text;
+
 /// One band: its own longs and shorts, what came in, the match, what goes on.
 #[derive(Clone, Copy, Default)]
-struct Band {
-    long: i128,
-    short: i128,
-    carried_in: i128,
-    matched: i128,
-    net: i128,
+pub struct Band {
+    pub long: i128,
+    pub short: i128,
+    pub carried_in: i128,
+    pub matched: i128,
+    pub net: i128,
+}
+
+/// A ladder whose figures agree with its bands.
+pub struct Commodity {
+    pub group: u64,
+    pub bands: [Band; 7],
+    pub figures: CommodityLadder,
+    /// The lines by which it adds up.
+    pub lines: Vec<Line>,
 }
 
 /// The bands of one commodity, nearest first.
@@ -57,66 +72,39 @@ fn cross_check(bands: &[Band; 7], ladder: &CommodityLadder) -> Result<(), String
     same("the net of all bands", net.abs(), ladder.residual)
 }
 
-/// The table of bands.
-fn band_table(bands: &[Band; 7]) -> String {
-    let titles = [
-        "band",
-        "days",
-        "long",
-        "short",
-        "carried in",
-        "matched",
-        "net",
-    ];
-    let mut lines = vec![titles.map(String::from).to_vec()];
-    for (number, band) in bands.iter().enumerate() {
-        lines.push(vec![
-            number.to_string(),
-            span(&COMMODITY, number),
-            whole(band.long),
-            whole(band.short),
-            whole(band.carried_in),
-            whole(band.matched),
-            whole(band.net),
-        ]);
+impl Commodity {
+    /// The ladder of a commodity by its rows and the library's figures, or where they disagree.
+    pub fn new(rows: &[Row], group: u64, figures: &CommodityLadder) -> Result<Commodity, String> {
+        let bands = bands(rows, group);
+        let lines = adding_up::commodity(rows, group, figures);
+        hold(cross_check(&bands, figures).err(), &lines)?;
+        Ok(Commodity {
+            group,
+            bands,
+            figures: *figures,
+            lines,
+        })
     }
-    table(&lines)
-}
 
-/// The ladder of one commodity, or where it disagrees with the library.
-pub fn show(rows: &[Row], group: u64, ladder: &CommodityLadder) -> Result<String, String> {
-    let bands = bands(rows, group);
-    let lines = adding_up::commodity(rows, group, ladder);
-    hold(cross_check(&bands, ladder).err(), &lines)?;
-    let line = |name: &str, sum: u64, rate: &str, mils_each: i128| {
-        let charge = mils(i128::from(sum) * mils_each);
-        vec![name.into(), whole(sum), rate.into(), charge]
-    };
-    let blank = String::new;
-    let steps = [
-        ["", "sum", "rate", "charge"].map(String::from).to_vec(),
-        line(
-            "matches, each on two sides",
-            ladder.matches,
-            "2 x 1.5%",
-            30_000,
-        ),
-        line("carried, at every step", ladder.carried, "0.6%", 6_000),
-        line("residual", ladder.residual, "15%", 150_000),
-        vec!["charge".into(), blank(), blank(), mils(ladder.charge)],
-    ];
-    Ok(format!(
-        "commodity {group}: amounts in thousands, charges in currency units\n\n{}\n{}\n{}",
-        band_table(&bands),
-        table(&steps),
-        adding_up::show(&lines)
-    ))
+    /// The bands that are shown: all, or those that have positions or take in what is carried.
+    pub fn shown(&self, hide_empty: bool) -> Vec<usize> {
+        let empty = |number: &usize| {
+            let band = &self.bands[*number];
+            (band.long, band.short, band.carried_in) == (0, 0, 0)
+        };
+        (0..7).filter(|band| !(hide_empty && empty(band))).collect()
+    }
 }
 
 #[cfg(test)]
 mod tests {
     use super::*;
     use books::Book;
+
+    /// The ladder as text.
+    fn show(rows: &[Row], group: u64, figures: &CommodityLadder) -> Result<String, String> {
+        Commodity::new(rows, group, figures).map(|ladder| text(&ladder, false))
+    }
 
     /// E5, in commodity 5.
     fn rows() -> Vec<Row> {
@@ -139,8 +127,11 @@ mod tests {
         market_risk::commodity_ladder(&book.encode().unwrap(), 5).unwrap()
     }
 
+    /// One figure of a ladder.
+    type Figure = fn(&mut CommodityLadder) -> &mut u64;
+
     /// Each figure of a ladder, by the name that its check has.
-    const FIGURES: [(&str, fn(&mut CommodityLadder) -> &mut u64); 4] = [
+    const FIGURES: [(&str, Figure); 4] = [
         ("matches", |ladder| &mut ladder.matches),
         ("carried", |ladder| &mut ladder.carried),
         ("residual", |ladder| &mut ladder.residual),
