@@ -23,6 +23,13 @@ fn vectors_are_current_until_they_are_changed() {
     assert!(error.contains("stdout is not current"));
 }
 
+/// The nanoseconds that stand behind a name.
+fn nanoseconds(line: &str, name: &str) -> f64 {
+    let (_, figure) = line.split_once(name).unwrap();
+    let (figure, _) = figure.split_once(" ns").unwrap();
+    figure.parse().unwrap()
+}
+
 #[test]
 fn a_short_benchmark_prints_every_line() {
     let text = prints(&["bench", "--rounds", "1"]);
@@ -54,6 +61,9 @@ fn a_short_benchmark_prints_every_line() {
     let last = tables[6].lines().last().unwrap();
     let beginning = "each of 7,998,000 comparisons, 4,000 rows of as many issues: proved ";
     assert!(last.starts_with(beginning), "{last}");
-    assert!(last.contains(" ns, Rust 0."), "{last}");
+    // A comparison takes more than no time and less than a microsecond on any machine.
+    let [proved, rust] = ["proved ", "Rust "].map(|name| nanoseconds(last, name));
+    assert!(0.0 < proved && proved < 1_000.0, "{last}");
+    assert!(0.0 < rust && rust < 1_000.0, "{last}");
     assert_eq!(text.matches("comparisons").count(), 1, "{text}");
 }
