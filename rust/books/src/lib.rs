@@ -1,4 +1,4 @@
-//! Books for the tools: rows and files, CSV text, tables of the ladder and their text, option tables and
+//! Books for the tools: rows and files, CSV text and its numbers, tables of the ladder and their text, option tables and
 //! theirs, and random books and tables from a seed.
 //!
 //! Nothing here charges anything, and nothing here decides whether a book or a table is
@@ -12,6 +12,7 @@ pub mod generate;
 pub mod issues;
 pub mod legs;
 pub mod names;
+pub mod number;
 pub mod options;
 pub mod random;
 pub mod refused;

@@ -1,7 +1,9 @@
-//! Files as commands use them: read whole, written whole or not at all, - for standard
-//! input and output, and no output over an input.
+//! Files as commands use them: read as far as they can be of use, written whole or not at all, - for
+//! standard input and output, and no output over an input.
 
 use crate::cli::{usage, Failure, Outcome};
+use crate::streams;
+use crate::trouble::{reading, writing};
 use std::fs::{self, File, Metadata, OpenOptions, Permissions};
 use std::io::{self, Read, Write};
 use std::os::fd::AsFd;
@@ -29,15 +31,26 @@ fn output(path: &Path) -> String {
     }
 }
 
-/// The bytes of a file, or of standard input for -.
-pub fn read(path: impl AsRef<Path>) -> Result<Vec<u8>, Failure> {
-    let path = path.as_ref();
+/// How many bytes tell how much of a file is read.
+const HEAD: u64 = 9;
+
+/// What can be read up to the most that its first bytes allow, and one byte more, by which a longer one is
+/// known.
+fn up_to(mut from: impl Read, most: impl Fn(&[u8]) -> usize) -> io::Result<Vec<u8>> {
     let mut bytes = Vec::new();
+    from.by_ref().take(HEAD).read_to_end(&mut bytes)?;
+    let left = (most(&bytes) + 1).saturating_sub(bytes.len());
+    from.take(left as u64).read_to_end(&mut bytes)?;
+    Ok(bytes)
+}
+
+/// The bytes of a file, or of standard input for -, up to the most that its first bytes allow and one more.
+pub fn read(path: &Path, most: impl Fn(&[u8]) -> usize) -> Result<Vec<u8>, Failure> {
     let done = match standard(path) {
-        true => io::stdin().read_to_end(&mut bytes).map(|_| bytes),
-        false => fs::read(path),
+        true => streams::input().and_then(|()| up_to(io::stdin().lock(), most)),
+        false => File::open(path).and_then(|file| up_to(file, most)),
     };
-    done.map_err(|error| usage(&format!("{}: {error}", input(path))))
+    done.map_err(|error| usage(&format!("{}: {}", input(path), reading(path, &error))))
 }
 
 /// Refuses standard input for two inputs, of which the second would find nothing.
@@ -82,9 +95,14 @@ pub fn apart(to: &Path, inputs: &[&Path]) -> Outcome {
     }
 }
 
-/// Whether a file is standard output, by whichever name.
+/// Whether a file is standard output, by whichever name. In the place of one that was closed stands
+/// another file, which may be written.
 pub fn is_output(path: &Path) -> bool {
-    standard(path) || same(&fs::metadata(path).ok(), &about(io::stdout()))
+    let there = || match streams::output_closed() {
+        true => streams::named_output(path),
+        false => same(&fs::metadata(path).ok(), &about(io::stdout())),
+    };
+    standard(path) || there()
 }
 
 /// Writes a file, or standard output for -.
@@ -98,7 +116,7 @@ pub fn write(path: impl AsRef<Path>, bytes: &[u8]) -> Outcome {
     } else {
         replace(path, bytes)
     };
-    done.map_err(|error| usage(&format!("{}: {error}", output(path))))
+    done.map_err(|error| usage(&format!("{}: {}", output(path), writing(path, &error))))
 }
 
 /// Writes text to standard output.
@@ -109,6 +127,7 @@ pub fn print(text: &str) -> Outcome {
 /// Writes all bytes to standard output, out of the buffer too. A pipe whose reader is gone is no
 /// error: the reader had what it wanted.
 fn emit(bytes: &[u8]) -> io::Result<()> {
+    streams::output()?;
     let mut out = io::stdout().lock();
     match out.write_all(bytes).and_then(|()| out.flush()) {
         Err(error) if error.kind() == io::ErrorKind::BrokenPipe => Ok(()),

@@ -3,6 +3,7 @@
 use std::fmt::{self, Display, Formatter, Write};
 
 /// A value.
+#[derive(Debug, PartialEq, Eq)]
 pub enum Json {
     Number(i128),
     Text(String),

@@ -1,10 +1,12 @@
 //! `pack`: CSV text into a book or an option table.
 
-use crate::cli::{no, Args, Choice, Command, Outcome, Part, Value};
+use crate::cli::{no, usage, Args, Choice, Command, Outcome, Part, Value};
 use crate::files::{apart, input, write};
 use crate::load::{self, read_text, Given};
 use crate::options;
 use crate::report::explain;
+use crate::written::names_text;
+use std::path::Path;
 
 pub const COMMAND: Command = Command {
     name: "pack",
@@ -29,8 +31,9 @@ pub const COMMAND: Command = Command {
             ),
             (
                 "others",
-                "whole numbers: coupon in basis points, long and short in thousands; empty \
-                 days, coupon and issue are 0",
+                "whole numbers: coupon in basis points, long and short in thousands. An empty \
+                 issue is 0, and so are days and coupon where only 0 is accepted; all else must \
+                 be there",
             ),
         ]),
         Part::Text(
@@ -41,8 +44,19 @@ pub const COMMAND: Command = Command {
         ),
         Part::Text(
             "A column that is missing, stands twice or has another name is refused, and so are \
-             numbers with thousands separators, decimals, signs, units or formulas. Every bad \
-             line is told with its first fault, up to 20 lines.",
+             numbers with thousands separators, decimals, signs, units or formulas, and a row \
+             that begins with # and no blank behind it, as errors of spreadsheets do. Every bad line is told with all its faults, \
+             up to 20 lines.",
+        ),
+        Part::Text(
+            "Coupons of 1 to 20 look like per cents, final maturities of 1 to 30 like years, and \
+             deltas and volatilities of 1 to 100 like whole ones: they are taken in four digits \
+             alone, so that 8 is refused and 0008 is 0.08%.",
+        ),
+        Part::Text(
+            "A book has at most 4,000 rows, of groups 0 to 31, with issues up to 65,535 and \
+             amounts up to 1,000,000,000; its text is read up to 4,000,000 bytes, that of an \
+             option table up to 1,000,000.",
         ),
         Part::Text(
             "Of kind floating, a floating-rate note of qualifying paper, days run to the next \
@@ -53,12 +67,17 @@ pub const COMMAND: Command = Command {
              book that the library refuses is not written, and the error names the line.",
         ),
         Part::Text(
+            "Books and tables are written packed, as bytes: an output whose name ends in .csv, in \
+             any case, is refused. market-risk unpack writes text.",
+        ),
+        Part::Text(
             "With --options the text is a table of options, which market-risk options takes. \
              Its header has the columns",
         ),
         Part::Lines(&["class,group,right,kind,amount,delta,gamma,vega,volatility,days"]),
         Part::Text(
-            "and each other line is one option; options keep their order, and empty days are 0.",
+            "and each other line is one option; options keep their order. Days of equity and fx \
+             may be empty.",
         ),
         Part::Words(&[
             ("class", "equity, fx or commodity; kind as above"),
@@ -95,13 +114,26 @@ fn check(given: &Given) -> Result<(), String> {
     market_risk::check(&given.bytes).map_err(|refusal| explain(given, &refusal))
 }
 
+/// Refuses the name of text for bytes.
+fn packed_name(to: &Path) -> Outcome {
+    let to_do = "name a file that does not end in .csv; market-risk unpack writes text";
+    match names_text(to) {
+        true => Err(usage(&format!(
+            "pack: {} would be bytes and no text; {to_do}",
+            to.display()
+        ))),
+        false => Ok(()),
+    }
+}
+
 fn run(args: &Args) -> Outcome {
     let [from, to] = args.files()?;
     apart(to, &[from])?;
+    packed_name(to)?;
     let of_options = args.flag("--options");
     let given = match of_options {
-        true => read_text(from, load::option_table),
-        false => read_text(from, load::book),
+        true => read_text(from, &load::OPTIONS),
+        false => read_text(from, &load::BOOK),
     }?;
     let checked = match (args.flag("--unchecked"), of_options) {
         (true, _) => Ok(()),
@@ -119,7 +151,7 @@ mod tests {
 
     /// The first line that is told of a book of these lines, or its bytes.
     fn pack(lines: &str) -> Result<Vec<u8>, String> {
-        let given = load::book(&format!("{HEADER}\n{lines}"))?;
+        let given = load::book(&format!("{HEADER}\n{lines}")).map_err(|why| why.to_string())?;
         let first = |why: String| why.lines().next().unwrap_or_default().to_string();
         check(&given).map(|()| given.bytes).map_err(first)
     }

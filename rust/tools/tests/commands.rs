@@ -41,7 +41,7 @@ fn help_for_all_and_each() {
     assert_eq!(prints(&["help"]), all);
     assert_eq!(prints(&["-h"]), all);
     assert!(fails(2, &["help", "lader"]).contains("no command 'lader'; did you mean ladder?"));
-    assert!(fails(2, &["help", "ladder", "net"]).contains("2 words given where one is wanted"));
+    assert!(fails(2, &["help", "ladder", "net"]).contains("'net' is one word too many"));
 }
 
 /// Catches a version that is not that of Cargo.toml.
@@ -54,7 +54,7 @@ fn the_version_is_told() {
     for words in ["version", "--version", "-V"] {
         assert_eq!(prints(&[words]), format!("market-risk {version}\n"));
     }
-    assert!(fails(2, &["version", "x"]).contains("1 files given where 0"));
+    assert!(fails(2, &["version", "x"]).contains("'x' is one word too many"));
 }
 
 /// Catches a value behind = that is not the value of the next word, and options behind --.
@@ -79,7 +79,8 @@ fn options_in_both_forms() {
         ),
         (
             &["report", "--", &book, "--currencies"],
-            "2 files given where 1 are wanted; see --help",
+            "report: '--currencies' is one file too many, for behind -- no word is an option; \
+             market-risk report BOOK [--table FILE] [--currencies] [--json | --csv]",
         ),
         (
             &["lader", &book],
@@ -89,7 +90,7 @@ fn options_in_both_forms() {
         assert_eq!(fails(2, words), format!("market-risk: {expected}\n"));
     }
     // Behind -- help is a file.
-    assert!(fails(2, &["report", "--", "--help"]).contains("--help: No such file"));
+    assert!(fails(2, &["report", "--", "--help"]).contains("--help: there is no such file"));
 }
 
 /// What the report of each sample has, in whole currency units unless it is shown.
@@ -313,7 +314,7 @@ fn a_broken_note_names_its_two_maturities() {
 fn wrong_command_lines() {
     assert!(fails(2, &[]).contains("--help"));
     assert!(fails(2, &["charge"]).contains("no command 'charge'"));
-    assert!(fails(2, &["report"]).contains("0 files given where 1 are wanted"));
+    assert!(fails(2, &["report"]).contains("report: BOOK is missing"));
     assert!(fails(2, &["report", "--all", "x"]).contains("no option '--all'"));
     assert!(fails(2, &["small-bank", "--currencies", "x"]).contains("no option '--currencies'"));
     assert!(fails(2, &["report", &temporary("no such file")]).contains("no such file"));

@@ -50,7 +50,7 @@ fn bash_completes_commands_options_words_and_files() {
         ("market-risk|completion|", &["bash", "fish", "zsh"]),
         (
             "market-risk|net|-",
-            &["--comparisons", "--help", "--offset", "--pairs"],
+            &["--comparisons", "--csv", "--help", "--offset", "--pairs"],
         ),
         ("market-risk|report|x.book|--t", &["--table"]),
         ("market-risk|least-trade|--side|", &["long", "short"]),

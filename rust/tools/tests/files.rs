@@ -201,7 +201,7 @@ fn an_output_over_an_input_is_refused() {
 fn a_failed_write_leaves_no_half_file() {
     let folder = folder("half");
     let header = "class,group,right,kind,amount,delta,gamma,vega,volatility,days";
-    let rows = "fx,1,sold put,none,5,1,1,1,1,0\n".repeat(1_000);
+    let rows = "fx,1,sold put,none,5,0001,1,1,0001,0\n".repeat(1_000);
     fs::write(format!("{folder}/big.options"), format!("{header}\n{rows}")).unwrap();
     let rows = "fx,1,none,0,0,0,5,0\n".repeat(4_000);
     let header = "class,group,kind,days,coupon,issue,long,short";

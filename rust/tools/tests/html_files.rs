@@ -66,12 +66,13 @@ fn no_name_stands_twice() {
     }
 }
 
-/// Catches a name that is written as it is.
+/// Catches a name that is written as it is, or with the folder that the book is in.
 #[test]
 fn names_are_escaped() {
-    let name = temporary("html <b>&\"'amp;.book");
-    fs::copy(packed("keyed", "html-name"), &name).unwrap();
-    let tree = parse(&prints(&["html", &name, "-o", "-"]));
+    let name = "html <b>&\"'amp;.book";
+    let path = temporary(name);
+    fs::copy(packed("keyed", "html-name"), &path).unwrap();
+    let tree = parse(&prints(&["html", &path, "-o", "-"]));
     let title = format!("Market risk of {name}");
     assert_eq!(tree.named("title")[0].text, title);
     assert_eq!(tree.named("h1")[0].text, title);
@@ -88,7 +89,7 @@ fn another_table_is_shown() {
         .iter()
         .map(|note| note.text.as_str())
         .collect();
-    assert_eq!(told[1], format!("under {table}, not document 01's table:"));
+    assert_eq!(told[1], "under steps.table, not document 01's table:");
     let printed = prints(&["report", &book, "--table", &table]);
     let lines: Vec<&str> = printed.lines().collect();
     assert_eq!(told[1..4], lines[..3]);
@@ -137,6 +138,10 @@ fn a_refused_book_is_explained_on_its_page() {
         ["number", "1"],
         ["reason", "fewer than 8 bytes"],
         ["what was found", "the file has 2 bytes"],
+        [
+            "what is allowed",
+            "the text of a book begins with the line class,group,kind,days,coupon,issue,long,short",
+        ],
     ];
     assert_eq!(facts, right.map(|fact| fact.map(String::from).to_vec()));
 }
@@ -167,7 +172,7 @@ fn wrong_command_lines_are_told() {
         let words: Vec<&str> = words.chain(more.split_whitespace()).collect();
         run(&words).status.code().unwrap()
     };
-    assert!(fails(2, &["html", &book]).contains("give -o FILE"));
+    assert!(fails(2, &["html", &book]).contains("html: -o FILE is missing"));
     assert!(fails(2, &["html", &book, "-o", &book]).contains("are one file"));
     assert_eq!(long("--currency 7"), 2);
     assert_eq!(long("--limit 500"), 2);

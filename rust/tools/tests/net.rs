@@ -128,9 +128,9 @@ fn other_refusals_are_told_as_by_report() {
 
 #[test]
 fn wrong_command_lines_and_files() {
-    assert!(fails(2, &["net"]).contains("0 files given where 2 are wanted"));
+    assert!(fails(2, &["net"]).contains("net: BOOK and OUT are missing"));
     let book = packed("netting", "words");
-    assert!(fails(2, &["net", &book]).contains("1 files given where 2 are wanted"));
+    assert!(fails(2, &["net", &book]).contains("net: OUT is missing"));
     assert!(fails(2, &["net", &book, &book]).contains("are one file"));
     for option in ["--table", "--currency", "--unchecked", "--comparison"] {
         let told = fails(2, &["net", &book, "x", option]);
@@ -140,7 +140,7 @@ fn wrong_command_lines_and_files() {
     assert!(fails(2, &["net", &temporary("no-book"), &out]).contains("no-book: "));
     let help = prints(&["net", "--help"]);
     assert!(
-        help.starts_with("market-risk net BOOK OUT [--offset [--pairs]] [--comparisons]\n"),
+        help.starts_with("market-risk net BOOK OUT [--offset [--pairs]] [--comparisons] [--csv]\n"),
         "{help}"
     );
 }

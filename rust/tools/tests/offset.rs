@@ -113,9 +113,9 @@ fn refusals_are_told_as_by_report() {
 
 #[test]
 fn wrong_command_lines_and_files() {
-    assert!(fails(2, &["offset"]).contains("0 files given where 2 are wanted"));
+    assert!(fails(2, &["offset"]).contains("offset: BOOK and OUT are missing"));
     let book = packed("offsetting", "words");
-    assert!(fails(2, &["offset", &book]).contains("1 files given where 2 are wanted"));
+    assert!(fails(2, &["offset", &book]).contains("offset: OUT is missing"));
     assert!(fails(2, &["offset", &book, &book]).contains("are one file"));
     for option in ["--table", "--currency", "--comparisons", "--pair"] {
         let told = fails(2, &["offset", &book, "x", option]);
@@ -124,5 +124,5 @@ fn wrong_command_lines_and_files() {
     let out = temporary("words.offset");
     assert!(fails(2, &["offset", &temporary("no-book"), &out]).contains("no-book: "));
     let help = prints(&["offset", "--help"]);
-    assert!(help.starts_with("market-risk offset BOOK OUT [--pairs]\n"));
+    assert!(help.starts_with("market-risk offset BOOK OUT [--pairs] [--csv]\n"));
 }

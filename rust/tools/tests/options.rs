@@ -86,11 +86,11 @@ fn underlyings_by_hand() {
     let table = csv(
         "underlyings",
         &[
-            "commodity,3,sold put,none,1,1,3,1,1,0",
+            "commodity,3,sold put,none,1,0001,3,1,0001,0",
             "equity,3,sold call,ordinary,1000,5000,10,2,1000,0",
             "equity,4,bought call,ordinary,1000,5000,999,1,1000,0",
             "equity,3,bought put,index,400,5000,10,3,1000,0",
-            "commodity,0,sold put,none,1,0,2,0,1,0",
+            "commodity,0,sold put,none,1,0,2,0,0001,0",
         ],
     );
     let out = temporary("underlyings.deltas");

@@ -113,14 +113,12 @@ fn counts_and_lengths_are_told() {
     let bad = temporary("bad.options");
     let many = [&[0xe9, 0x03], &[255; 18 * 1_001][..]].concat();
     let which = "the table counts 10 options, which have 182 bytes, and has";
+    let begins = format!("the text of a table begins with the line {HEADER}");
     for (bytes, words) in [
-        (
-            vec![],
-            "the table has 0 bytes, and its count alone has 2".into(),
-        ),
+        (vec![], format!("the file is empty; {begins}")),
         (
             vec![1],
-            "the table has 1 bytes, and its count alone has 2".into(),
+            format!("the table has 1 bytes, and its count alone has 2; {begins}"),
         ),
         (good[..181].to_vec(), format!("{which} 181")),
         ([&good[..], &[0]].concat(), format!("{which} 183")),
@@ -139,15 +137,13 @@ fn counts_and_lengths_are_told() {
     let words = "the table counts 1,001 options, and 1,000 are the most";
     let expected = format!("market-risk: {text}: line 1002: refused 16: {SIXTEEN}\n{words}\n");
     assert_eq!(told, expected);
-    // Without a count that fits there is nothing to show; a count alone that is too large has options.
+    // Without a count that fits there is nothing to show, nor of more options than are read.
     fs::write(&bad, &good[..181]).unwrap();
     let told = fails(1, &["unpack", "--options", &bad, "-"]);
     assert!(told.ends_with(&format!("refused 16: {SIXTEEN}\n{which} 181\n")));
     prints(&["pack", "--options", "--unchecked", &text, &bad]);
-    assert_eq!(
-        prints(&["unpack", "--options", &bad, "-"]),
-        fs::read_to_string(&text).unwrap()
-    );
+    let told = fails(1, &["unpack", "--options", &bad, "-"]);
+    assert!(told.ends_with(&format!("refused 16: {SIXTEEN}\n{words}\n")));
 }
 
 /// Catches text that is taken for a table, and lines that are not told.
@@ -165,7 +161,8 @@ fn text_that_is_no_option_table_is_told() {
     assert_eq!(fails(1, &["unpack", "--options", &book_text, &out]), told);
     let wrong = csv("wrong", &[STOCK, &STOCK.replace("7210", "0.721")]);
     let told = fails(1, &["options", &wrong]);
-    let why = "line 3: delta is '0.721': decimals are not taken; write a whole number\n";
+    let why = "line 3: delta is '0.721': decimals are not taken; \
+               write it in ten-thousandths: 0.721 is 7210\n";
     assert_eq!(told, format!("market-risk: {wrong}: {why}"));
     // Each of two sorts of text is no other's.
     let told = fails(1, &["pack", &sample("options"), &out]);
@@ -182,8 +179,8 @@ fn text_that_is_no_option_table_is_told() {
 #[test]
 fn wrong_command_lines() {
     let options = sample("options");
-    assert!(fails(2, &["options"]).contains("0 files given where 1 are wanted"));
-    assert!(fails(2, &["options", &options, &options]).contains("2 files given"));
+    assert!(fails(2, &["options"]).contains("options: TABLE is missing"));
+    assert!(fails(2, &["options", &options, &options]).contains("one file too many"));
     assert!(fails(2, &["options", &options, "-o"]).contains("-o wants a value"));
     assert!(fails(2, &["options", &options, "--table", "x"]).contains("no option '--table'"));
     assert!(fails(2, &["options", &temporary("none at all")]).contains("none at all: "));
@@ -194,6 +191,6 @@ fn wrong_command_lines() {
     let folder = temporary("no-such-folder/options.deltas");
     assert!(fails(2, &["options", &options, "-o", &folder]).contains("options.deltas: "));
     let help = prints(&["options", "--help"]);
-    assert!(help.starts_with("market-risk options TABLE [-o FILE]\n"));
+    assert!(help.starts_with("market-risk options TABLE [-o FILE [--csv]]\n"));
     assert!(help.contains(HEADER) && prints(&["pack", "--help"]).contains(HEADER));
 }

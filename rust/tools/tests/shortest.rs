@@ -2,6 +2,7 @@
 
 mod common;
 
+use books::csv::HEADER;
 use common::{book, fails, packed, prints, run, temporary, unpacked};
 use std::fs;
 
@@ -104,28 +105,33 @@ fn each_number_of_a_file() {
     let over = [&[0xa1, 0x0f, 0, 0, 0, 0, 0, 0], &mixed[8..]].concat();
     // Eight letters with a comma: too short for text.
     let text = b"abc,efgh";
-    let counts = "has 199 bytes and counts 4, 3, 3, 2 rows";
+    let counts = "has 199 bytes and counts 4, 3, 3, 2 rows, together 12";
+    let most = "and 4,000 are the most";
+    let [over_most, text_most] = [
+        format!(" 4,001, 0, 0, 0 rows, together 4,001, {most}"),
+        format!(" 25,185, 11,363, 26,213, 26,727 rows, together 89,488, {most}"),
+    ];
     type File<'a> = &'a [u8];
     let cases: [(&str, u64, File, File, &str); 7] = [
-        ("none", 1, b"", b"", "has 0 bytes"),
-        ("few", 1, &mixed[..7], b"", "has 7 bytes"),
-        ("over", 2, &over, &over[..8], " 4,001, 0, 0, 0 rows"),
-        (
-            "text",
-            2,
-            text,
-            text,
-            " 25,185, 11,363, 26,213, 26,727 rows",
-        ),
+        ("none", 1, b"", b"", HEADER),
+        ("few", 1, &mixed[..7], b"", HEADER),
+        ("over", 2, &over, &over[..8], &over_most),
+        ("text", 2, text, text, &text_most),
         ("cut", 3, &mixed[..199], &mixed[..8], counts),
         (
             "zeros",
             3,
             &[0; 24],
             &[1, 0, 0, 0, 0, 0, 0, 0],
-            " 0, 0, 0, 0 rows",
+            " 0, 0, 0, 0 rows, together 0",
         ),
-        ("short", 3, &mixed[..8], &mixed[..8], " 4, 3, 3, 2 rows"),
+        (
+            "short",
+            3,
+            &mixed[..8],
+            &mixed[..8],
+            " 4, 3, 3, 2 rows, together 12",
+        ),
     ];
     for (name, number, bytes, expected, ends) in cases {
         let book = file(&format!("shortest-{name}.book"), bytes);
@@ -135,7 +141,10 @@ fn each_number_of_a_file() {
         assert_eq!(reported(&book), told);
         assert_eq!(fs::read(&out).unwrap(), expected, "{name}");
         let report = reported(&out);
-        let length = format!("\nthe file has {} bytes", expected.len());
+        let length = match expected.len() {
+            0 => "\nthe file is empty; ".to_string(),
+            length => format!("\nthe file has {length} bytes"),
+        };
         assert!(
             report.starts_with(&begins) && report.contains(&length),
             "{report}"
@@ -201,10 +210,10 @@ fn a_full_book_is_shown_by_its_row() {
 #[test]
 fn wrong_command_lines_and_files() {
     let (bad, out) = (file("shortest-words.book", &[7]), temporary("words.shown"));
-    assert!(fails(2, &["shortest"]).contains("0 files given where 1 are wanted"));
-    assert!(fails(2, &["shortest", &bad]).contains("shortest: give -o FILE"));
+    assert!(fails(2, &["shortest"]).contains("shortest: BOOK is missing"));
+    assert!(fails(2, &["shortest", &bad]).contains("shortest: -o FILE is missing"));
     assert!(fails(2, &["shortest", &bad, "-o"]).contains("-o wants a value"));
-    assert!(fails(2, &["shortest", &bad, &out]).contains("2 files given where 1 are wanted"));
+    assert!(fails(2, &["shortest", &bad, &out]).contains("words.shown' is one file too many"));
     assert!(fails(2, &["shortest", &bad, "-o", &bad]).contains("are one file"));
     for to in ["-", "/dev/stdout"] {
         let told = fails(2, &["shortest", &bad, "-o", to]);
@@ -216,5 +225,5 @@ fn wrong_command_lines_and_files() {
     assert_eq!(fs::read(&bad).unwrap(), [7]);
     assert!(run(&["shortest", "-o", &out, &bad]).status.success());
     let help = prints(&["shortest", "--help"]);
-    assert!(help.starts_with("market-risk shortest BOOK -o FILE\n"));
+    assert!(help.starts_with("market-risk shortest BOOK -o FILE [--csv]\n"));
 }

@@ -82,9 +82,9 @@ fn other_refusals_are_told_as_by_report() {
 
 #[test]
 fn wrong_command_lines_and_files() {
-    assert!(fails(2, &["small-bank"]).contains("0 files given where 1 are wanted"));
+    assert!(fails(2, &["small-bank"]).contains("small-bank: BOOK is missing"));
     let book = packed("small-bank", "words");
-    assert!(fails(2, &["small-bank", &book, &book]).contains("2 files given"));
+    assert!(fails(2, &["small-bank", &book, &book]).contains("one file too many"));
     for option in ["--table", "--currencies", "--commodity"] {
         let told = fails(2, &["small-bank", &book, option, "4"]);
         assert!(told.contains(&format!("no option '{option}'")), "{told}");

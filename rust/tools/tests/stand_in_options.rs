@@ -135,7 +135,7 @@ fn options_fails_with_a_wrong_answer() {
         assert_eq!(told.lines().next(), Some(&why[..]), "{fault}: {told}");
     }
     // Three impacts of 112.5 mils on one underlying.
-    let halves = csv("halves", &["commodity,1,sold put,none,1,1,1,0,0,0"; 3]);
+    let halves = csv("halves", &["commodity,1,sold put,none,1,0001,1,0,0,0"; 3]);
     for (fault, figure) in [("halves_each", "0.339"), ("halves_down", "0.337")] {
         let why = format!("commodity gamma is by the library {figure}, by the options 0.338");
         let told = told_of_options("answer", fault, &halves);

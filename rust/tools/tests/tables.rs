@@ -90,7 +90,7 @@ fn wrong_command_lines_of_tables() {
     let told = fails(2, &["table", &table, "--out", &table]);
     assert!(told.contains("are one file"), "{told}");
     let told = fails(2, &["table", &table, &table]);
-    assert!(told.contains("2 files given where 1 are wanted"), "{told}");
+    assert!(told.contains("is one file too many"), "{told}");
     assert!(fails(2, &["table", &temporary("no table")]).contains("no table"));
     let book = packed("commodity", "tables");
     let told = fails(2, &["ladder", &book, "--commodity", "5", "--table", &table]);

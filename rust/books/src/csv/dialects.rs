@@ -27,8 +27,8 @@ impl Dialect {
 
     /// The fields of one line, each written in one of its ways.
     fn line(&self, random: &mut Random, fields: &[&str]) -> String {
-        let fields = self.order.iter().map(|at| (*at, fields[*at]));
-        let mut written: Vec<String> = fields.map(|(at, field)| one(random, at, field)).collect();
+        let written = |at: &usize| one(random, may_be_empty(fields[0], *at), fields[*at]);
+        let mut written: Vec<String> = self.order.iter().map(written).collect();
         written.extend(vec![String::new(); self.past]);
         written.join(self.separator) + self.line_end
     }
@@ -46,9 +46,18 @@ impl Dialect {
     }
 }
 
+/// Whether the field of a column may be left empty for 0, by the class of its line: the issue, and days
+/// and coupon where there are none.
+fn may_be_empty(class: &str, column: usize) -> bool {
+    match column {
+        3 => class == "equity" || class == "fx",
+        4 => class != "interest",
+        column => column == 5,
+    }
+}
+
 /// A field in one of its ways: in another case, in quotes, with blanks, or empty for 0 where it may be.
-fn one(random: &mut Random, column: usize, field: &str) -> String {
-    let may_be_empty = (3..=5).contains(&column);
+fn one(random: &mut Random, may_be_empty: bool, field: &str) -> String {
     let field = match random.below(3) {
         0 if may_be_empty && field == "0" => String::new(),
         1 => field.to_uppercase(),

@@ -29,10 +29,8 @@ pub fn text_of(bytes: &[u8]) -> Result<&str, LineError> {
         return Ok(text);
     }
     let found = if utf_16(bytes) { "UTF-16" } else { "not UTF-8" };
-    Err(LineError {
-        line: 1 + lines_in(text),
-        what: format!("{found} text; save it as CSV UTF-8"),
-    })
+    let what = format!("{found} text; save it as CSV UTF-8");
+    Err(LineError::new(1 + lines_in(text), what))
 }
 
 #[cfg(test)]

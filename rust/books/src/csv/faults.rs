@@ -9,11 +9,34 @@ const MOST_TOLD: usize = 20;
 /// The most signs of a text that a message shows.
 const MOST_SHOWN: usize = 60;
 
+/// What is wrong with a line, and the column that it is of, where it is of one.
+#[derive(Clone, Debug, PartialEq, Eq)]
+pub struct Wrong {
+    pub column: Option<String>,
+    pub what: String,
+}
+
+impl From<String> for Wrong {
+    fn from(what: String) -> Wrong {
+        let column = None;
+        Wrong { column, what }
+    }
+}
+
 /// What is wrong with a line of the text. Lines are numbered from 1.
 #[derive(Clone, Debug, PartialEq, Eq)]
 pub struct LineError {
     pub line: usize,
+    pub column: Option<String>,
     pub what: String,
+}
+
+impl LineError {
+    /// What is wrong with a line.
+    pub fn new(line: usize, wrong: impl Into<Wrong>) -> LineError {
+        let Wrong { column, what } = wrong.into();
+        LineError { line, column, what }
+    }
 }
 
 impl fmt::Display for LineError {
@@ -22,11 +45,33 @@ impl fmt::Display for LineError {
     }
 }
 
-/// The faults of a text in the order of its lines: those of the first 20 bad lines, and how many
+/// Reads the fields of a line one after the other and keeps all that is wrong.
+#[derive(Default)]
+pub(crate) struct Fields(Vec<Wrong>);
+
+impl Fields {
+    /// What a field is read as, or nothing where it is wrong.
+    pub fn take<T>(&mut self, read: Result<T, impl Into<Wrong>>) -> Option<T> {
+        read.map_err(|wrong| self.0.push(wrong.into())).ok()
+    }
+
+    /// The same, with zero where it is wrong.
+    pub fn number<T: Default>(&mut self, read: Result<T, Wrong>) -> T {
+        self.take(read).unwrap_or_default()
+    }
+
+    /// What was made of the fields, where none is wrong.
+    pub fn made<T>(self, made: Option<T>) -> Result<T, Vec<Wrong>> {
+        made.filter(|_| self.0.is_empty()).ok_or(self.0)
+    }
+}
+
+/// The faults of a text in the order of its lines: all those of the first 20 bad lines, and how many
 /// more lines are bad.
 #[derive(Clone, Debug, Default, PartialEq, Eq)]
 pub struct Faults {
     told: Vec<LineError>,
+    lines: usize,
     more: usize,
 }
 
@@ -36,16 +81,30 @@ impl Faults {
         &self.told
     }
 
-    /// One more fault, of a later line.
-    pub(super) fn push(&mut self, fault: LineError) {
-        match self.told.len() < MOST_TOLD {
-            true => self.told.push(fault),
-            false => self.more += 1,
+    /// How many more lines are bad.
+    pub fn more(&self) -> usize {
+        self.more
+    }
+
+    /// One more line with its faults.
+    fn push(&mut self, faults: Vec<LineError>) {
+        if self.lines == MOST_TOLD {
+            self.more += 1;
+            return;
         }
+        self.lines += 1;
+        self.told.extend(faults);
+    }
+
+    /// What was read of a line; else its faults are one line more.
+    pub(crate) fn of_line<T>(&mut self, line: usize, read: Result<T, Vec<Wrong>>) -> Option<T> {
+        let of_line = |wrong| LineError::new(line, wrong);
+        read.map_err(|all| self.push(all.into_iter().map(of_line).collect()))
+            .ok()
     }
 
     /// A value where nothing is wrong.
-    pub(super) fn or<T>(self, value: T) -> Result<T, Faults> {
+    pub(crate) fn or<T>(self, value: T) -> Result<T, Faults> {
         match self.told.is_empty() {
             true => Ok(value),
             false => Err(self),
@@ -55,8 +114,8 @@ impl Faults {
 
 impl From<LineError> for Faults {
     fn from(fault: LineError) -> Faults {
-        let told = vec![fault];
-        Faults { told, more: 0 }
+        let (told, lines, more) = (vec![fault], 1, 0);
+        Faults { told, lines, more }
     }
 }
 
@@ -66,7 +125,7 @@ impl fmt::Display for Faults {
         write!(out, "{}", told.join("\n"))?;
         match self.more {
             0 => Ok(()),
-            more => write!(out, "\nand {more} more"),
+            more => write!(out, "\nand {more} more bad lines"),
         }
     }
 }
@@ -90,12 +149,13 @@ pub(crate) fn shown(found: &str) -> String {
 mod tests {
     use super::*;
 
-    /// So many faults, of lines 1, 2 and so on.
+    /// Lines 1, 2 and so on, with a fault each and the first with two.
     fn faults(count: usize) -> Faults {
         let mut faults = Faults::default();
         for line in 1..=count {
-            let what = "bad".into();
-            faults.push(LineError { line, what });
+            let fault = LineError::new(line, "bad".to_string());
+            let again = (line == 1).then(|| fault.clone());
+            faults.push([fault].into_iter().chain(again).collect());
         }
         faults
     }
@@ -104,17 +164,18 @@ mod tests {
     #[test]
     fn twenty_lines_are_told_and_the_others_counted() {
         assert_eq!(faults(0).or(7), Ok(7));
-        assert_eq!(faults(2).to_string(), "line 1: bad\nline 2: bad");
+        let two = "line 1: bad\nline 1: bad\nline 2: bad";
+        assert_eq!(faults(2).to_string(), two);
         for (count, last) in [
             (20, "line 20: bad"),
-            (21, "and 1 more"),
-            (120, "and 100 more"),
+            (21, "and 1 more bad lines"),
+            (120, "and 100 more bad lines"),
         ] {
             let text = faults(count).or(()).unwrap_err().to_string();
             assert_eq!(text.lines().last(), Some(last));
             assert_eq!(
                 text.lines().filter(|line| line.ends_with("bad")).count(),
-                20
+                21
             );
         }
     }

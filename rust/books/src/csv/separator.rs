@@ -20,12 +20,10 @@ fn told(text: &str) -> Result<Option<(char, &str)>, LineError> {
     let known = SEPARATORS
         .into_iter()
         .find(|known| sign == known.to_string());
-    let wrong = || LineError {
-        line: 1,
-        what: format!(
-            "sep is {}; it may be a comma, a semicolon or a tab",
-            shown(sign)
-        ),
+    let wrong = || {
+        let sign = shown(sign);
+        let what = format!("sep is {sign}; it may be a comma, a semicolon or a tab");
+        LineError::new(1, what)
     };
     known.map(|known| Some((known, rest))).ok_or_else(wrong)
 }

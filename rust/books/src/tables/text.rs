@@ -5,7 +5,8 @@
 //! Nothing here decides whether a table is accepted.
 
 use super::{Table, BANDS};
-use crate::csv::{field, LineError};
+use crate::csv::{shown, Faults, Fields, LineError, Wrong};
+use crate::number::{column, field, Unit};
 
 /// The name of the line of weights.
 const WEIGHTS: &str = "weights";
@@ -20,58 +21,85 @@ pub const PER_CENTS: [&str; 6] = [
     "zones-1-3",
 ];
 
+/// A line of a table: its number, and the words after its name.
+type Named<'a> = (usize, Vec<&'a str>);
+
 /// The words after a line's name, which must be this one.
 fn values<'a>(name: &str, line: &'a str) -> Result<Vec<&'a str>, String> {
     let mut words = line.split_whitespace();
     match words.next() {
         Some(first) if first == name => Ok(words.collect()),
-        Some(first) => Err(format!("the line of {name} is wanted here, not '{first}'")),
+        Some(first) => Err(format!(
+            "the line of {name} is wanted here, not {}",
+            shown(first)
+        )),
         None => Err(format!("the line of {name} is missing")),
     }
 }
 
-/// The weights of a line.
-fn read_weights(line: &str) -> Result<[u16; BANDS], String> {
-    let words = values(WEIGHTS, line)?;
-    let count = words.len();
-    let words: [&str; BANDS] = words
-        .try_into()
-        .map_err(|_| format!("{count} weights where {BANDS} are wanted"))?;
-    let mut weights = [0; BANDS];
-    for (band, word) in words.iter().enumerate() {
-        weights[band] = field(&format!("the weight of band {band}"), word)?;
-    }
-    Ok(weights)
-}
-
-/// The per cent of a line.
-fn read_per_cent(name: &str, line: &str) -> Result<u8, String> {
-    match values(name, line)?[..] {
-        [word] => field(name, word),
-        ref words => Err(format!("{name} has {} numbers, not one", words.len())),
-    }
-}
-
-/// Reads text. Comments and blank lines are passed over.
-pub fn parse(text: &str) -> Result<Table, LineError> {
-    let text = text.strip_prefix('\u{feff}').unwrap_or(text);
+/// The lines of a text by their names, in order. Comments and blank lines are passed over.
+fn named(text: &str) -> Result<[Named<'_>; 7], LineError> {
     let end = (text.lines().count() + 1, "");
     let lines = (1..).zip(text.lines().map(str::trim));
     let mut lines = lines.filter(|(_, line)| !line.is_empty() && !line.starts_with('#'));
-    let (line, weights) = lines.next().unwrap_or(end);
-    let weights = read_weights(weights).map_err(|what| LineError { line, what })?;
-    let mut per_cents = [0; 6];
-    for (per_cent, name) in per_cents.iter_mut().zip(PER_CENTS) {
+    let mut found: [Named; 7] = Default::default();
+    for (found, name) in found.iter_mut().zip([WEIGHTS].iter().chain(&PER_CENTS)) {
         let (line, written) = lines.next().unwrap_or(end);
-        *per_cent = read_per_cent(name, written).map_err(|what| LineError { line, what })?;
+        let words = values(name, written).map_err(|what| LineError::new(line, what))?;
+        *found = (line, words);
     }
-    if let Some((line, more)) = lines.next() {
-        let what = format!("nothing is wanted after zones-1-3, and here is '{more}'");
-        return Err(LineError { line, what });
+    match lines.next() {
+        Some((line, more)) => {
+            let more = shown(more);
+            let what = format!("nothing is wanted after zones-1-3, and here is {more}");
+            Err(LineError::new(line, what))
+        }
+        None => Ok(found),
     }
-    let [vertical, zone_1, zone_2, zone_3, adjacent, zones_1_3] = per_cents;
-    Ok(Table {
-        weights,
+}
+
+/// The weights of a line.
+fn read_weights(words: &[&str]) -> Result<[u16; BANDS], Vec<Wrong>> {
+    let mut fields = Fields::default();
+    let count = words.len();
+    if count != BANDS {
+        let wrong = format!("{count} weights where {BANDS} are wanted");
+        return Err(vec![wrong.into()]);
+    }
+    let weight = |(band, word): (usize, &&str)| {
+        let name = format!("the weight of band {band}");
+        fields.number(field(&column(&name, Unit::BasisPoints, "0 to 2,000"), word))
+    };
+    let weights: Vec<u16> = words.iter().enumerate().map(weight).collect();
+    fields.made(weights.try_into().ok())
+}
+
+/// The per cent of a line.
+fn read_per_cent(name: &str, words: &[&str]) -> Result<u8, Vec<Wrong>> {
+    let read = match words {
+        [word] => field(&column(name, Unit::PerCents, "0 to 100"), word),
+        words => Err(format!("{name} has {} numbers, not one", words.len()).into()),
+    };
+    read.map_err(|wrong| vec![wrong])
+}
+
+/// Reads text, whose lines end with LF, CRLF or CR. Of one whose lines stand in order every wrong number is
+/// told.
+pub fn parse(text: &str) -> Result<Table, Faults> {
+    let text = text.strip_prefix('\u{feff}').unwrap_or(text);
+    let text = text.replace("\r\n", "\n").replace('\r', "\n");
+    let [(line, weights), per_cents @ ..] = named(&text)?;
+    let mut faults = Faults::default();
+    let weights = faults.of_line(line, read_weights(&weights));
+    let mut read = [0; 6];
+    for ((read, name), (line, words)) in read.iter_mut().zip(PER_CENTS).zip(per_cents) {
+        *read = faults
+            .of_line(line, read_per_cent(name, &words))
+            .unwrap_or_default();
+    }
+    let [vertical, zone_1, zone_2, zone_3, adjacent, zones_1_3] = read;
+    faults.or(Table {
+        weights: weights.unwrap_or_default(),
         vertical,
         zones: [zone_1, zone_2, zone_3],
         adjacent,
@@ -147,6 +175,7 @@ zones-1-3 6
         let loose = TEXT.replace("\nzone-1 2", "\r\n\r\n  # zone-1 9\r\n\tzone-1\t 2 ");
         let loose = format!("\u{feff}# a comment\n{}", loose.trim_end());
         assert_eq!(parse(&loose), parse(TEXT));
+        assert_eq!(parse(&TEXT.replace('\n', "\r")), parse(TEXT));
     }
 
     /// What is told of the text after a replacement, and of which line.
@@ -168,17 +197,18 @@ zones-1-3 6
             (
                 "302",
                 "3,02",
-                "line 1: the weight of band 2 is '3,02': decimals are not taken; write a whole number",
+                "line 1: the weight of band 2 is '3,02': decimals are not taken; \
+                 write it in basis points: 3,02% is 302",
             ),
             (
                 "302",
                 "-3",
-                "line 1: the weight of band 2 is '-3': signs are not taken; write digits alone",
+                "line 1: the weight of band 2 is '-3': a number below zero is not taken",
             ),
             (
                 "314",
                 "65536",
-                "line 1: the weight of band 14 is 65536, too large for its bytes",
+                "line 1: the weight of band 14 is '65536', and may be 0 to 2,000",
             ),
             (
                 "zone-2 3\n",
@@ -208,12 +238,13 @@ zones-1-3 6
             (
                 "adjacent 5",
                 "adjacent 5%",
-                "line 6: adjacent is '5%': units and other signs are not taken; write digits alone",
+                "line 6: adjacent is '5%': units and other signs are not taken; \
+                 write it in whole per cents: 5% is 5",
             ),
             (
                 "adjacent 5",
                 "adjacent 256",
-                "line 6: adjacent is 256, too large for its bytes",
+                "line 6: adjacent is '256', and may be 0 to 100",
             ),
             (
                 "zones-1-3 6\n",
@@ -229,6 +260,19 @@ zones-1-3 6
         for (from, to, expected) in cases {
             assert_eq!(told(from, to), expected);
         }
+        // Every wrong number is told.
+        let text = TEXT
+            .replace("302 303", "3.02 3%")
+            .replace("zone-1 2", "zone-1 x");
+        let lines = parse(&text).unwrap_err().to_string();
+        let lines: Vec<&str> = lines.lines().map(|line| &line[..30]).collect();
+        let band = "line 1: the weight of band ";
+        let told = [
+            format!("{band}2 i"),
+            format!("{band}3 i"),
+            "line 3: zone-1 is 'x', not a wh".into(),
+        ];
+        assert_eq!(lines, told.each_ref().map(|line| &line[..30]));
         let nothing = "line 1: the line of weights is missing";
         assert_eq!(parse("").unwrap_err().to_string(), nothing);
     }

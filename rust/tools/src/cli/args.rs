@@ -1,6 +1,6 @@
 //! The words of a command line as a command reads them.
 
-use super::{usage, Failure};
+use super::{number, usage, Failure};
 use std::ffi::{OsStr, OsString};
 use std::path::Path;
 
@@ -13,15 +13,12 @@ pub struct Args {
 }
 
 impl Args {
-    /// Exactly so many files.
+    /// Exactly so many files, as many as the form of the command has.
     pub fn files<const N: usize>(&self) -> Result<[&Path; N], Failure> {
         let files: Vec<&Path> = self.operands.iter().map(Path::new).collect();
         let given = files.len();
-        files.try_into().map_err(|_| {
-            usage(&format!(
-                "{given} files given where {N} are wanted; see --help"
-            ))
-        })
+        let wrong = |_| usage(&format!("{given} files given where {N} are wanted"));
+        files.try_into().map_err(wrong)
     }
 
     /// One file or none.
@@ -34,15 +31,13 @@ impl Args {
 
     /// One word that is no file, or none.
     pub fn word_if_any(&self) -> Result<Option<&OsStr>, Failure> {
-        match &self.operands[..] {
-            [] => Ok(None),
-            [word] => Ok(Some(word)),
-            more => {
-                let given = more.len();
-                let why = format!("{given} words given where one is wanted; see --help");
-                Err(usage(&why))
-            }
-        }
+        let word = self.file_if_any()?;
+        Ok(word.map(Path::as_os_str))
+    }
+
+    /// Whether an option was given, with a value or as a flag.
+    pub(super) fn given(&self, name: &str) -> bool {
+        self.flag(name) || self.value(name).is_some()
     }
 
     /// The value given for an option.
@@ -64,13 +59,9 @@ impl Args {
 
     /// An option's value as a whole number.
     pub fn number(&self, name: &str) -> Result<Option<u64>, Failure> {
-        let parse = |value: &OsStr| {
-            let digits = value.to_str().map(|text| text.replace('_', ""));
-            let number = digits.and_then(|digits| digits.parse().ok());
-            let shown = value.display();
-            number.ok_or_else(|| usage(&format!("{name} is '{shown}', not a whole number")))
-        };
-        self.value(name).map(parse).transpose()
+        let parse = |value: &OsStr| number::whole(name, &value.to_string_lossy());
+        let number = self.value(name).map(parse).transpose();
+        number.map_err(|told| usage(&told))
     }
 
     /// Whether a flag was given.

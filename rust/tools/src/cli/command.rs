@@ -1,7 +1,7 @@
 //! The description of a command, from which its help, its part of the man page, its completion and
 //! the parsing of its options are made.
 
-use super::{help, print, Args, Outcome};
+use super::{help, operands, print, Args, Outcome};
 use std::ffi::OsString;
 
 /// A subcommand.
@@ -121,6 +121,8 @@ impl Command {
         if options.any(|word| word == "--help" || word == "-h") {
             return print(&help::of(self));
         }
-        (self.run)(&Args::parse(self, words)?)
+        let args = Args::parse(self, words)?;
+        operands::check(self, &args)?;
+        (self.run)(&args)
     }
 }

@@ -1,5 +1,7 @@
 //! How a command ends.
 
+use crate::json::Json;
+
 /// A refused book or table, a difference, or vectors that are not current.
 const NO: u8 = 1;
 
@@ -24,6 +26,16 @@ pub const STATUSES: [(&str, &str); 3] = [
 pub struct Failure {
     pub status: u8,
     pub message: String,
+    /// The same for programs, where there is such a form.
+    pub json: Option<Json>,
+}
+
+impl Failure {
+    /// The failure with a form for programs.
+    pub fn with(self, json: Json) -> Failure {
+        let json = Some(json);
+        Failure { json, ..self }
+    }
 }
 
 /// What a command comes to.
@@ -34,6 +46,7 @@ pub fn no(message: impl ToString) -> Failure {
     Failure {
         status: NO,
         message: message.to_string(),
+        json: None,
     }
 }
 
@@ -42,5 +55,6 @@ pub fn usage(message: &str) -> Failure {
     Failure {
         status: PROBLEM,
         message: message.to_string(),
+        json: None,
     }
 }

@@ -9,7 +9,8 @@ use crate::COMMANDS;
 pub const CONVENTIONS: &str = "The value of an option follows it, or stands behind a =, as in \
      --currency=7; -- ends the options. A file named - is standard input or output. An output is \
      written whole or not at all, and may not be one of the inputs. Where the reader of standard \
-     output is gone, what is left is not written, and that is no error.";
+     output is gone, what is left is not written, and that is no error; where standard output is \
+     closed, it is one.";
 
 pub const COMMAND: Command = Command {
     name: "help",
@@ -26,7 +27,10 @@ pub const COMMAND: Command = Command {
 
 fn run(args: &Args) -> Outcome {
     match args.word_if_any()? {
-        Some(name) => print(&of(super::find(COMMANDS, name)?)),
+        Some(name) => match super::find(COMMANDS, name) {
+            Some(command) => print(&of(command)),
+            None => Err(super::unknown::command(COMMANDS, &name.to_string_lossy())),
+        },
         None => print(&overview(COMMANDS)),
     }
 }

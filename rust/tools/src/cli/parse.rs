@@ -1,6 +1,7 @@
 //! The words of a command line, sorted out by the description of the command.
 
-use super::{did_you_mean, usage, Args, Choice, Command, Failure, Outcome, Value};
+use super::near::{listed, meant};
+use super::{unknown, usage, Args, Choice, Command, Failure, Outcome, Value};
 use std::ffi::{OsStr, OsString};
 use std::os::unix::ffi::OsStrExt;
 use std::slice::Iter;
@@ -21,13 +22,7 @@ fn split(word: &OsStr) -> (&OsStr, Option<&OsStr>) {
 fn find<'a>(command: &'a Command, name: &OsStr) -> Result<&'a Choice, Failure> {
     let given = name.to_string_lossy();
     let found = command.options.iter().find(|option| option.name == given);
-    found.ok_or_else(|| {
-        let names = command.options.iter().map(|option| option.name);
-        let names = names.chain(["--help"]);
-        let all = format!("market-risk {} --help", command.name);
-        let hint = did_you_mean(&given, names, &all);
-        usage(&format!("no option '{given}' of {}; {hint}", command.name))
-    })
+    found.ok_or_else(|| unknown::option(command, &given))
 }
 
 /// The value of an option, behind its = or in the next word; none of a flag.
@@ -49,16 +44,22 @@ fn value(
     }
 }
 
-/// Refuses a value that is none of the words of its option.
+/// Refuses a file without a name, and a value that is none of the words of its option, with the one that
+/// was meant.
 fn allowed(option: &Choice, value: &OsStr) -> Result<(), String> {
-    match option.value {
-        Some(Value::Word(words)) if !words.iter().any(|word| value == *word) => Err(format!(
-            "{} is '{}', not {}",
-            option.name,
-            value.display(),
-            words.join(" or ")
-        )),
-        _ => Ok(()),
+    let name = option.name;
+    let words = match option.value {
+        Some(Value::File(_) | Value::Folder(_)) if value.is_empty() => {
+            return Err(format!("{name} is empty"));
+        }
+        Some(Value::Word(words)) if !words.iter().any(|word| value == *word) => words,
+        _ => return Ok(()),
+    };
+    let (shown, list) = (value.display(), listed(words, "or"));
+    let told = format!("{name} is '{shown}', not {list}");
+    match &meant(&value.to_string_lossy(), words)[..] {
+        [] => Err(told),
+        words => Err(format!("{told}; did you mean {}?", listed(words, "or"))),
     }
 }
 
@@ -176,6 +177,11 @@ mod tests {
             assert!(parse(&format!("--side={word}")).is_err(), "{word}");
         }
         let told = parse("--seed x").unwrap().number("--seed");
-        assert_eq!(told, Err(usage("--seed is 'x', not a whole number")));
+        assert_eq!(
+            told,
+            Err(usage(
+                "--seed is 'x', not a whole number; write it as a whole number"
+            ))
+        );
     }
 }

@@ -173,7 +173,10 @@ fn run<'a>(library: &'a dyn Calls, other: &'a dyn Calls, count: u64) -> Run<'a> 
 
 /// How a run fails, which it must, with exit status 1.
 fn failure(run: &Run) -> String {
-    let Err(Failure { status, message }) = run.outcome() else {
+    let Err(Failure {
+        status, message, ..
+    }) = run.outcome()
+    else {
         panic!("the run does not fail");
     };
     assert_eq!(status, 1);

@@ -3,11 +3,10 @@
 mod doubt;
 mod rates;
 
-use crate::cli::{no, print, usage, Args, Choice, Command, Failure, Outcome, Part};
-use crate::files::{is_output, write};
+use crate::cli::{no, print, Args, Choice, Command, Failure, Outcome, Part};
 use crate::lines::{charge, show, Line, Sign::Equal};
 use crate::text::{mils, table, whole};
-use crate::written::length_line;
+use crate::written::{self, length_line, Out};
 use books::{MOST_ROWS, ROW_BYTES};
 use doubt::doubt;
 use rates::{Rate, RATES};
@@ -15,7 +14,7 @@ use rates::{Rate, RATES};
 pub const COMMAND: Command = Command {
     name: "dearest",
     brief: "the most that a book of some rows of at most an amount can cost",
-    forms: &["--rows K --most M [-o FILE]"],
+    forms: &["--rows K --most M [-o FILE [--csv]]"],
     about: &[
         Part::Text(
             "Prints the total of the costliest book of K rows of at most M thousands each, in \
@@ -46,6 +45,7 @@ pub const COMMAND: Command = Command {
              each row long M. Other books can be as dear. Not standard output, where the \
              figures are printed",
         ),
+        written::CSV,
     ],
     operands: None,
     run,
@@ -63,7 +63,7 @@ impl Asked {
     fn new(args: &Args) -> Result<Asked, Failure> {
         match (args.number("--rows")?, args.number("--most")?) {
             (Some(rows), Some(most)) => Ok(Asked { rows, most }),
-            _ => Err(usage("dearest: give --rows K and --most M")),
+            _ => Err(COMMAND.incomplete(args)),
         }
     }
 
@@ -132,16 +132,12 @@ fn total(asked: &Asked, total: u64) -> Line {
 
 fn run(args: &Args) -> Outcome {
     let [] = args.files()?;
-    let (asked, to) = (Asked::new(args)?, args.path("-o"));
-    if to.is_some_and(is_output) {
-        let why = "dearest: -o is standard output, where the figures are printed; name a file";
-        return Err(usage(why));
-    }
+    let asked = Asked::new(args)?;
+    let out = Out::beside(args, ["dearest", "the figures are printed"])?;
     let (file, sum) = book_of(&asked).map_err(no)?;
     let mut text = format!("{}\n{}", show(&[total(&asked, sum)]), rates(&asked));
-    if let Some(to) = to {
-        write(to, &file)?;
-        text += &length_line(to, &file);
+    if let Some(out) = out {
+        text += &length_line(out.to, out.write(&file)?);
     }
     print(&text)
 }

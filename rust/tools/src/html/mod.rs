@@ -12,11 +12,12 @@ mod small_bank;
 mod style;
 mod tables;
 
-use crate::cli::{no, usage, Args, Choice, Command, Failure, Outcome, Part, Value};
+use crate::cli::{no, Args, Choice, Command, Failure, Outcome, Part, Value};
 use crate::files::{apart, input, write};
 use crate::ladder::Why;
 use crate::least_trade::{Answered, Asked};
-use crate::load::{read_book, Given};
+use crate::load::{read_noted, Given};
+use crate::name::name;
 use crate::report::explain;
 use crate::table::Loaded;
 use figures::Figures;
@@ -89,7 +90,7 @@ const TRADE: [&str; 6] = [
 /// The least trade that is asked for, where one is.
 fn trade(args: &Args) -> Result<Option<Asked>, Failure> {
     match TRADE.iter().any(|name| args.text(name).is_some()) {
-        true => Asked::new("html", args).map(Some),
+        true => Asked::new(&COMMAND, args).map(Some),
         false => Ok(None),
     }
 }
@@ -119,14 +120,14 @@ fn page(
 
 fn run(args: &Args) -> Outcome {
     let [path] = args.files()?;
-    let to = args.path("-o").ok_or_else(|| usage("html: give -o FILE"))?;
+    let to = args.path("-o").ok_or_else(|| COMMAND.incomplete(args))?;
     let inputs: Vec<&Path> = [path].into_iter().chain(args.path("--table")).collect();
     apart(to, &inputs)?;
     let asked = trade(args)?;
     let loaded = Loaded::new(args, path)?;
-    let given = read_book(path)?;
+    let given = read_noted(path)?;
     let named = |why: String| no(format!("{}: {why}", input(path)));
-    let page = page(&given, &loaded, asked.as_ref(), input(path));
+    let page = page(&given, &loaded, asked.as_ref(), name(path));
     let (page, refused) = page.map_err(named)?;
     write(to, page.as_bytes())?;
     refused.map_or(Ok(()), |why| Err(named(why)))

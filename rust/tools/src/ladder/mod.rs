@@ -16,7 +16,7 @@ use crate::cli::{no, Args, Command, Outcome, Value};
 use crate::files::{input, print};
 use crate::forms::Form;
 use crate::json::Json;
-use crate::load::read_book;
+use crate::load::read_noted;
 use crate::report::refused;
 use crate::table::{self, Loaded};
 use market_risk::Table;
@@ -85,8 +85,9 @@ fn run(args: &Args) -> Outcome {
     let [path] = args.files()?;
     let (wanted, form) = (Wanted::of(args)?, Form::of(args)?);
     let as_picture = picture::wanted(args, &wanted, form)?;
-    let loaded = Loaded::new(args, path)?;
-    let given = read_book(path)?;
+    let failed = |failure| form.failed(failure);
+    let loaded = Loaded::new(args, path).map_err(failed)?;
+    let given = read_noted(path).map_err(failed)?;
     let drawn = drawn(&given.bytes, &wanted, &loaded.table);
     let ladders = drawn.map_err(|why| match why {
         Why::Refused(refusal) => refused(form, path, &given, &refusal),
@@ -96,6 +97,7 @@ fn run(args: &Args) -> Outcome {
         return print(&picture::pictures(ladders, &loaded.note()));
     }
     let hide_empty = args.flag("--hide-empty");
+    loaded.note_beside(form);
     print(&match form {
         Form::Text => loaded.note() + &text(&ladders, &wanted, hide_empty),
         Form::Json => format!("{}\n", json(&ladders, &loaded.table, hide_empty)),

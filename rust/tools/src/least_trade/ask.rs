@@ -104,10 +104,10 @@ mod tests {
         let (group, band) = ("32, and 31 is the last", "15, and 14 is the last");
         let first = format!("refused 10: ladder group over 31\ncurrency {group}");
         let then = format!("refused 21: band over 14 or side over 1\nband {band}");
-        let book = "refused 1: fewer than 8 bytes\nthe file has 7 bytes";
+        let book = "refused 1: fewer than 8 bytes\nthe file has 7 bytes; ";
         assert_eq!(told(&[0; 7], 32, 15), Err(first));
         assert_eq!(told(&[0; 7], 31, 15), Err(then));
-        assert_eq!(told(&[0; 7], 31, 14), Err(book.into()));
+        assert!(told(&[0; 7], 31, 14).unwrap_err().starts_with(book));
         assert_eq!(told(&[0; 8], 31, 14), Ok(Some(0)));
         let most = told(&[0; 8], 0, u64::MAX).unwrap_err();
         let end = "\nband 18,446,744,073,709,551,615, and 14 is the last";

@@ -5,11 +5,12 @@ mod ask;
 mod asked;
 mod curve;
 mod doubt;
+mod limit;
 mod show;
 
 use crate::cli::{no, Args, Choice, Command, Outcome, Part, Value};
 use crate::files::{input, print};
-use crate::load::{read_book, Given};
+use crate::load::{read_noted, Given};
 use crate::table::Loaded;
 use market_risk::Table;
 
@@ -100,9 +101,9 @@ fn least(given: &Given, table: &Table, asked: &Asked) -> Result<String, String> 
 
 fn run(args: &Args) -> Outcome {
     let [path] = args.files()?;
-    let asked = Asked::new("least-trade", args)?;
+    let asked = Asked::new(&COMMAND, args)?;
     let loaded = Loaded::new(args, path)?;
-    let text = least(&read_book(path)?, &loaded.table, &asked);
+    let text = least(&read_noted(path)?, &loaded.table, &asked);
     let text = text.map_err(|why| no(format!("{}: {why}", input(path))))?;
     print(&(loaded.note() + &text))
 }

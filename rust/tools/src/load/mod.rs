@@ -1,15 +1,67 @@
-//! A book or an option table as a command is given it: CSV text or packed bytes, told apart by content.
+//! A book or an option table as a command is given it: CSV text or packed bytes, told apart by content, and
+//! read no further than the largest that is accepted.
+
+mod foreign;
+mod notes;
+mod unread;
 
 #[cfg(test)]
 mod tests;
 
-use crate::cli::{no, Failure};
-use crate::files::{input, read};
-use books::csv::{self, text_byte, text_of, utf_16};
-use books::options::{self, MOST_OPTIONS};
-use books::MOST_ROWS;
+use crate::cli::Failure;
+use crate::files::read;
+use crate::text::whole;
+use books::csv::{self, text_byte, text_of, utf_16, Faults, LineError};
+use books::options::{self, COUNT_BYTES, MOST_OPTIONS, OPTION_BYTES};
+use books::{MOST_ROWS, ROW_BYTES};
 use market_risk::Refusal;
 use std::path::Path;
+
+pub use foreign::foreign;
+pub use notes::{note, of_options};
+pub use unread::{unread, Unread};
+
+/// The bytes of text that a row may take, with comments and all.
+const TEXT_BYTES: usize = 1_000;
+
+/// What a command reads: how much of it is read at most, and what makes bytes of its text.
+pub struct Sort {
+    /// The bytes of the largest that is accepted.
+    pub most_bytes: usize,
+    most_rows: usize,
+    pack: fn(&str) -> Result<Given, Faults>,
+    /// Whether bytes are of it, packed and accepted.
+    packed: fn(&[u8]) -> bool,
+}
+
+pub const BOOK: Sort = Sort {
+    most_bytes: 8 + ROW_BYTES * MOST_ROWS,
+    most_rows: MOST_ROWS,
+    pack: book,
+    packed: |file| market_risk::check(file).is_ok(),
+};
+
+pub const OPTIONS: Sort = Sort {
+    most_bytes: COUNT_BYTES + OPTION_BYTES * MOST_OPTIONS,
+    most_rows: MOST_OPTIONS,
+    pack: option_table,
+    packed: |file| options::decode(file).is_some(),
+};
+
+impl Sort {
+    /// The most bytes of its text.
+    fn most_text(&self) -> usize {
+        TEXT_BYTES * self.most_rows
+    }
+
+    /// A length in words, of bytes that were read as far as the largest that is accepted and one more.
+    pub fn length(&self, bytes: &[u8]) -> String {
+        match bytes.len() > self.most_bytes {
+            true => format!("more than {}", whole(self.most_bytes as u64)),
+            false => whole(bytes.len() as u64),
+        }
+    }
+}
 
 /// Whether a file is text. It is when its first eight bytes are all bytes of text and more follow, or when
 /// it begins as UTF-16 does, which is then told. No accepted book begins so: each of its four counts would
@@ -20,6 +72,15 @@ fn is_text(file: &[u8]) -> bool {
     head.is_some_and(|head| head.iter().copied().all(text_byte) || utf_16(head))
 }
 
+/// What is told of a text of so many rows that they have no count.
+fn too_many(mut lines: Vec<usize>, rows: usize) -> Faults {
+    let (count, most) = (whole(lines.len() as u64), whole(rows as u64));
+    lines.sort_unstable();
+    let line = lines.get(rows).copied().unwrap_or_default();
+    let what = format!("the text has {count} rows, and {most} are the most");
+    LineError::new(line, what).into()
+}
+
 /// The bytes of a book or an option table and, where it was text, the line of each row.
 #[derive(Debug, PartialEq, Eq)]
 pub struct Given {
@@ -27,23 +88,22 @@ pub struct Given {
     lines: Option<Vec<usize>>,
 }
 
-/// What makes bytes of text: `book` or `option_table`.
-type Pack = fn(&str) -> Result<Given, String>;
-
 /// The book of CSV text.
-pub fn book(text: &str) -> Result<Given, String> {
-    let parsed = csv::parse(text).map_err(|faults| faults.to_string())?;
-    let bytes = parsed.book.encode();
-    let bytes = bytes.ok_or("a class has more than 65,535 rows")?;
-    Ok(Given::of_lines(bytes, parsed.lines))
+pub fn book(text: &str) -> Result<Given, Faults> {
+    let parsed = csv::parse(text)?;
+    match parsed.book.encode() {
+        Some(bytes) => Ok(Given::of_lines(bytes, parsed.lines)),
+        None => Err(too_many(parsed.lines, MOST_ROWS)),
+    }
 }
 
 /// The option table of CSV text.
-pub fn option_table(text: &str) -> Result<Given, String> {
-    let parsed = options::csv::parse(text).map_err(|faults| faults.to_string())?;
-    let bytes = options::encode(&parsed.options);
-    let bytes = bytes.ok_or("more than 65,535 options")?;
-    Ok(Given::of_lines(bytes, parsed.lines))
+pub fn option_table(text: &str) -> Result<Given, Faults> {
+    let parsed = options::csv::parse(text)?;
+    match options::encode(&parsed.options) {
+        Some(bytes) => Ok(Given::of_lines(bytes, parsed.lines)),
+        None => Err(too_many(parsed.lines, MOST_OPTIONS)),
+    }
 }
 
 impl Given {
@@ -60,15 +120,31 @@ impl Given {
     }
 
     /// A file of text.
-    fn of_text(file: &[u8], pack: Pack) -> Result<Given, String> {
-        pack(text_of(file).map_err(|fault| fault.to_string())?)
+    fn of_text(file: &[u8], sort: &Sort) -> Result<Given, Unread> {
+        let most = sort.most_text();
+        if let Some(what) = foreign(file) {
+            return Err(what.to_string().into());
+        }
+        if file.len() > most {
+            let [most, rows] = [most, sort.most_rows].map(|count| whole(count as u64));
+            let what = format!("more than {most} bytes, the most for the text of {rows} rows");
+            return Err(what.into());
+        }
+        if !is_text(file) && (sort.packed)(file) {
+            return Err("it is packed already, and text is wanted"
+                .to_string()
+                .into());
+        }
+        let text = text_of(file).map_err(Faults::from)?;
+        Ok((sort.pack)(text)?)
     }
 
     /// A file in either form.
-    fn of_file(file: Vec<u8>, pack: Pack) -> Result<Given, String> {
-        match is_text(&file) {
-            true => Given::of_text(&file, pack),
-            false => Ok(Given::of_bytes(file)),
+    fn of_file(file: Vec<u8>, sort: &Sort) -> Result<Given, Unread> {
+        match (is_text(&file), foreign(&file)) {
+            (true, _) => Given::of_text(&file, sort),
+            (false, Some(what)) => Err(what.to_string().into()),
+            (false, None) => Ok(Given::of_bytes(file)),
         }
     }
 
@@ -108,22 +184,37 @@ impl Given {
     }
 }
 
-/// Reads a file, which is made into what a command takes; a fault is told with its name.
-fn read_as(path: &Path, made: impl Fn(Vec<u8>) -> Result<Given, String>) -> Result<Given, Failure> {
-    made(read(path)?).map_err(|why| no(format!("{}: {why}", input(path))))
+/// Reads a file of a sort, which is made into what a command takes; all that is wrong is told with its name.
+fn read_as(
+    path: &Path,
+    sort: &Sort,
+    made: fn(Vec<u8>, &Sort) -> Result<Given, Unread>,
+) -> Result<Given, Failure> {
+    let most = |head: &[u8]| match is_text(head) {
+        true => sort.most_text(),
+        false => sort.most_bytes,
+    };
+    made(read(path, most)?, sort).map_err(|why| unread(path, &why))
 }
 
 /// Reads a book in either form.
 pub fn read_book(path: &Path) -> Result<Given, Failure> {
-    read_as(path, |file| Given::of_file(file, book))
+    read_as(path, &BOOK, Given::of_file)
+}
+
+/// The same of a book whose figures are printed: what looks wrong with it is told beside them.
+pub fn read_noted(path: &Path) -> Result<Given, Failure> {
+    let given = read_book(path)?;
+    notes::of_book(path, &given.bytes);
+    Ok(given)
 }
 
 /// Reads an option table in either form.
 pub fn read_options(path: &Path) -> Result<Given, Failure> {
-    read_as(path, |file| Given::of_file(file, option_table))
+    read_as(path, &OPTIONS, Given::of_file)
 }
 
 /// Reads what must be text.
-pub fn read_text(path: &Path, pack: Pack) -> Result<Given, Failure> {
-    read_as(path, |file| Given::of_text(&file, pack))
+pub fn read_text(path: &Path, sort: &Sort) -> Result<Given, Failure> {
+    read_as(path, sort, |file, sort| Given::of_text(&file, sort))
 }

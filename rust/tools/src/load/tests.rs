@@ -2,7 +2,7 @@
 
 use super::*;
 use books::csv::HEADER;
-use books::options::csv::HEADER as OPTIONS;
+use books::options::csv::HEADER as OPTION_HEADER;
 use books::Book;
 
 const ROW: &str = "fx,1,none,0,0,0,5,0\n";
@@ -85,13 +85,44 @@ fn one_row_too_many_names_its_line() {
     let given = book(&format!("{HEADER}\n{most}interest,1,other,0,0,0,5,0\n")).unwrap();
     let told = given.refused(&market_risk::check(&given.bytes).unwrap_err());
     assert!(told.starts_with("line 4002: refused 2: "), "{told}");
-    let given = option_table(&format!("{OPTIONS}\n{}", GOLD.repeat(1_001))).unwrap();
+    let given = option_table(&format!("{OPTION_HEADER}\n{}", GOLD.repeat(1_001))).unwrap();
     let told = given.refused(&refusal(16, 0));
     assert!(told.starts_with("line 1002: refused 16: "), "{told}");
     let told = book(&format!("{HEADER}\n{}", ROW.repeat(65_536))).unwrap_err();
-    assert_eq!(told, "a class has more than 65,535 rows");
-    let told = option_table(&format!("{OPTIONS}\n{}", GOLD.repeat(65_536))).unwrap_err();
-    assert_eq!(told, "more than 65,535 options");
+    let many = "line 4002: the text has 65,536 rows, and 4,000 are the most";
+    assert_eq!(told.to_string(), many);
+    let told = option_table(&format!("{OPTION_HEADER}\n{}", GOLD.repeat(65_536))).unwrap_err();
+    let many = "line 1002: the text has 65,536 rows, and 1,000 are the most";
+    assert_eq!(told.to_string(), many);
+}
+
+/// Whether each fault is told with its line.
+fn told_by_line(why: &Unread) -> bool {
+    match why {
+        Unread::Whole(_) => false,
+        Unread::Lines(faults) => faults
+            .to_string()
+            .lines()
+            .all(|line| line.starts_with("line ")),
+    }
+}
+
+/// Catches a file of which more is taken than there may be, and a limit that is one off.
+#[test]
+fn text_has_a_most() {
+    let read = |sort: &Sort, text: String, length: usize| {
+        let comment = "#".repeat(length - text.len());
+        Given::of_file([text, comment].concat().into_bytes(), sort)
+    };
+    let text = || format!("{HEADER}\n{ROW}");
+    assert!(read(&BOOK, text(), 4_000_000).is_ok());
+    let most = "more than 4,000,000 bytes, the most for the text of 4,000 rows";
+    let told = read(&BOOK, text(), 4_000_001).unwrap_err();
+    assert_eq!(told, Unread::Whole(most.into()));
+    let text = || format!("{OPTION_HEADER}\n{GOLD}");
+    assert!(read(&OPTIONS, text(), 1_000_000).is_ok());
+    assert!(read(&OPTIONS, text(), 1_000_001).is_err());
+    assert_eq!([BOOK.most_bytes, OPTIONS.most_bytes], [64_008, 18_002]);
 }
 
 /// Catches a text that is cut or damaged anywhere and then ends in a panic, or is a book that no text is.
@@ -103,13 +134,13 @@ fn damaged_text_is_read_or_told() {
     );
     let mut bytes = text.into_bytes();
     for at in 0..bytes.len() {
-        let cut = Given::of_file(bytes[..at].to_vec(), book);
+        let cut = Given::of_file(bytes[..at].to_vec(), &BOOK);
         assert!(cut.is_err() || at <= 8 || Book::decode(&cut.unwrap().bytes).is_some());
         let whole = bytes[at];
         for byte in 0..=255 {
             bytes[at] = byte;
-            if let Err(told) = Given::of_file(bytes.clone(), book) {
-                assert!(told.starts_with("line "), "{told}");
+            if let Err(told) = Given::of_file(bytes.clone(), &BOOK) {
+                assert!(told_by_line(&told) || foreign(&bytes).is_some());
             }
         }
         bytes[at] = whole;

@@ -4,12 +4,12 @@ mod count;
 mod doubt;
 
 use crate::cli::{no, print, usage, Args, Choice, Command, Failure, Outcome, Part, Value};
-use crate::files::{apart, input, write};
+use crate::files::{apart, input};
 use crate::load::{read_book, Given};
 use crate::offset::{pairs, pairs_line};
 use crate::report::explain;
 use crate::text::whole;
-use crate::written::apart_from_line;
+use crate::written::{self, apart_from_line, Out};
 pub use count::bound;
 use doubt::{doubt, doubt_count, netted_book};
 use std::path::Path;
@@ -17,7 +17,7 @@ use std::path::Path;
 pub const COMMAND: Command = Command {
     name: "net",
     brief: "a book with the rows of one issue made one",
-    forms: &["BOOK OUT [--offset [--pairs]] [--comparisons]"],
+    forms: &["BOOK OUT [--offset [--pairs]] [--comparisons] [--csv]"],
     about: &[
         Part::Text(
             "Writes the netted book. Within a class the rows of one issue number become one \
@@ -69,6 +69,7 @@ pub const COMMAND: Command = Command {
              the one of its own issue. Not with an OUT that is standard output, where the \
              netted book goes",
         ),
+        written::CSV,
     ],
     operands: Some(Value::File("BOOK")),
     run,
@@ -144,7 +145,7 @@ fn run(args: &Args) -> Outcome {
     apart(to, &[from])?;
     let given = read_book(from)?;
     let written = written(&given, offset).map_err(|why| no(format!("{}: {why}", input(from))))?;
-    write(to, &written.book)?;
+    Out::new(args, to).write(&written.book)?;
     if comparisons {
         print(&line(&given.bytes, written.comparisons))?;
     }

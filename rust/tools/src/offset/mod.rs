@@ -3,17 +3,17 @@
 mod doubt;
 
 use crate::cli::{no, print, Args, Choice, Command, Outcome, Part, Value};
-use crate::files::{apart, input, write};
+use crate::files::{apart, input};
 use crate::load::{read_book, Given};
 use crate::report::explain;
 use crate::text::whole;
-use crate::written::apart_from_line;
+use crate::written::{self, apart_from_line, Out};
 pub use doubt::{fit, pairs};
 
 pub const COMMAND: Command = Command {
     name: "offset",
     brief: "a book of swap legs without the pairs that offset each other",
-    forms: &["BOOK OUT [--pairs]"],
+    forms: &["BOOK OUT [--pairs] [--csv]"],
     about: &[
         Part::Text(
             "Writes the book without its offsetting swap legs: government rows of interest, \
@@ -41,11 +41,14 @@ pub const COMMAND: Command = Command {
              nothing, if another book is left.",
         ),
     ],
-    options: &[Choice::flag(
-        "--pairs",
-        "print how many pairs were left out, and how many rows are left. Not with an OUT \
-         that is standard output, where the book goes",
-    )],
+    options: &[
+        Choice::flag(
+            "--pairs",
+            "print how many pairs were left out, and how many rows are left. Not with an OUT \
+             that is standard output, where the book goes",
+        ),
+        written::CSV,
+    ],
     operands: Some(Value::File("BOOK")),
     run,
 };
@@ -76,7 +79,7 @@ fn run(args: &Args) -> Outcome {
     apart(to, &[from])?;
     let given = read_book(from)?;
     let (left, pairs) = offset(&given).map_err(|why| no(format!("{}: {why}", input(from))))?;
-    write(to, &left)?;
+    Out::new(args, to).write(&left)?;
     match wanted {
         true => {
             let rows = given.bytes.len().saturating_sub(8) / 16;

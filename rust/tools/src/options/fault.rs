@@ -1,7 +1,9 @@
 //! The first fault of an option table, looked for here.
 
 use super::limits::told;
+use crate::load::OPTIONS;
 use crate::text::whole;
+use books::options::csv::HEADER;
 use books::options::{decode, COUNT_BYTES, MOST_OPTIONS, OPTION_BYTES};
 use std::fmt;
 
@@ -24,11 +26,13 @@ impl fmt::Display for Fault {
 
 /// A count that is missing, too large, or not that of the bytes.
 fn contents(bytes: &[u8]) -> Option<String> {
-    let has = whole(bytes.len() as u64);
+    let has = OPTIONS.length(bytes);
     let Some(count) = bytes.first_chunk::<COUNT_BYTES>() else {
-        return Some(format!(
-            "the table has {has} bytes, and its count alone has 2"
-        ));
+        let begins = format!("the text of a table begins with the line {HEADER}");
+        return Some(match bytes.len() {
+            0 => format!("the file is empty; {begins}"),
+            _ => format!("the table has {has} bytes, and its count alone has 2; {begins}"),
+        });
     };
     let count = usize::from(u16::from_le_bytes(*count));
     let length = COUNT_BYTES + OPTION_BYTES * count;
@@ -95,8 +99,9 @@ mod tests {
             assert_eq!(fault.to_string(), "16");
             fault.words
         };
-        let short = "the table has 1 bytes, and its count alone has 2";
-        assert_eq!(told(&[1]), short);
+        let short = "the table has 1 bytes, and its count alone has 2; ";
+        assert!(told(&[1]).starts_with(short));
+        assert!(told(&[]).starts_with("the file is empty; "));
         let many = "the table counts 1,001 options, and 1,000 are the most";
         assert_eq!(told(&encode(&[BAD; 1_001]).unwrap()), many);
         assert_eq!(told(&[0xe9, 0x03]), many);

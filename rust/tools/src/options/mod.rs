@@ -8,10 +8,10 @@ mod greeks;
 mod limits;
 mod show;
 
-use crate::cli::{no, print, usage, Args, Choice, Command, Outcome, Part, Value};
-use crate::files::{apart, input, is_output, write};
-use crate::load::{read_options, Given};
-use crate::written::length_line;
+use crate::cli::{no, print, Args, Choice, Command, Outcome, Part, Value};
+use crate::files::{apart, input};
+use crate::load::{of_options, read_options, Given};
+use crate::written::{self, length_line, Out};
 use ask::{of_table, of_underlyings};
 use books::options::{csv, decode};
 use doubt::hold;
@@ -19,7 +19,7 @@ use doubt::hold;
 pub const COMMAND: Command = Command {
     name: "options",
     brief: "what options cost: the book of their deltas, gamma and vega",
-    forms: &["TABLE [-o FILE]"],
+    forms: &["TABLE [-o FILE [--csv]]"],
     about: &[
         Part::Text(
             "Charges a table of options on equity, foreign exchange and commodities by the \
@@ -76,12 +76,15 @@ pub const COMMAND: Command = Command {
              against its limits.",
         ),
     ],
-    options: &[Choice::file(
-        "-o",
-        "FILE",
-        "writes the book, a book like others. Not standard output, where the figures are \
+    options: &[
+        Choice::file(
+            "-o",
+            "FILE",
+            "writes the book, a book like others. Not standard output, where the figures are \
              printed",
-    )],
+        ),
+        written::CSV,
+    ],
     operands: Some(Value::File("TABLE")),
     run,
 };
@@ -112,19 +115,15 @@ pub fn unpack(given: Given) -> Result<String, String> {
 
 fn run(args: &Args) -> Outcome {
     let [from] = args.files()?;
-    let to = args.path("-o");
-    if let Some(to) = to {
-        if is_output(to) {
-            let why = "options: -o is standard output, where the figures are printed; name a file";
-            return Err(usage(why));
-        }
-        apart(to, &[from])?;
+    let out = Out::beside(args, ["options", "the figures are printed"])?;
+    if let Some(out) = &out {
+        apart(out.to, &[from])?;
     }
     let given = read_options(from)?;
     let (file, mut text) = written(&given).map_err(|why| no(format!("{}: {why}", input(from))))?;
-    if let Some(to) = to {
-        write(to, &file)?;
-        text += &length_line(to, &file);
+    of_options(from, &given.bytes);
+    if let Some(out) = out {
+        text += &length_line(out.to, out.write(&file)?);
     }
     print(&text)
 }
@@ -144,7 +143,7 @@ mod tests {
 
     /// The bytes of lines of text, which must be accepted.
     fn packed(lines: &str) -> Result<Given, String> {
-        let given = option_table(&text(lines))?;
+        let given = option_table(&text(lines)).map_err(|why| why.to_string())?;
         check(&given).map(|()| given)
     }
 
@@ -172,7 +171,10 @@ mod tests {
     #[test]
     fn bytes_that_have_no_options_are_refused() {
         for (bytes, words) in [
-            (vec![], "the table has 0 bytes, and its count alone has 2"),
+            (
+                vec![],
+                "the file is empty; the text of a table begins with the line",
+            ),
             (
                 vec![1, 0],
                 "the table counts 1 options, which have 20 bytes, and has 2",
@@ -180,7 +182,7 @@ mod tests {
         ] {
             let told = unpack(Given::of_bytes(bytes)).unwrap_err();
             assert!(told.starts_with("refused 16: "), "{told}");
-            assert!(told.ends_with(&format!("\n{words}")), "{told}");
+            assert!(told.contains(&format!("\n{words}")), "{told}");
         }
     }
 }

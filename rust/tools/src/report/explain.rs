@@ -1,8 +1,9 @@
 //! A refusal in words.
 
 use super::issues::{differing, over};
-use crate::load::Given;
+use crate::load::{Given, BOOK};
 use crate::text::whole;
+use books::csv::HEADER;
 use books::names::{floating, kind_name, kinds, CLASS_NAMES};
 use books::{Book, Row};
 use market_risk::Refusal;
@@ -50,27 +51,47 @@ pub fn fields(class: usize, row: &Row) -> String {
 }
 
 /// The four counts of a file of at least eight bytes.
-fn counts(bytes: &[u8]) -> [String; 4] {
-    std::array::from_fn(|class| {
-        let count = [bytes[2 * class], bytes[2 * class + 1]];
-        whole(u16::from_le_bytes(count))
-    })
+fn counts(bytes: &[u8]) -> [u16; 4] {
+    std::array::from_fn(|class| u16::from_le_bytes([bytes[2 * class], bytes[2 * class + 1]]))
+}
+
+/// The counts of a file, and the rows that they make.
+fn counted(bytes: &[u8]) -> String {
+    let counts = counts(bytes);
+    let rows: u64 = counts.iter().copied().map(u64::from).sum();
+    format!(
+        "counts {} rows, together {}",
+        counts.map(whole).join(", "),
+        whole(rows)
+    )
+}
+
+/// A file that is too short for a book.
+fn short(bytes: &[u8]) -> String {
+    let found = match bytes.len() {
+        0 => "the file is empty".into(),
+        length => format!("the file has {length} bytes"),
+    };
+    format!("{found}; the text of a book begins with the line {HEADER}")
 }
 
 /// A refusal explained, with its row's fields.
 pub fn explain(given: &Given, refusal: &Refusal) -> String {
     let bytes = &given.bytes[..];
-    let length = whole(bytes.len() as u64);
+    let length = BOOK.length(bytes);
     let book = Book::decode(bytes).unwrap_or_default();
     let more = match (refusal.number, book.row(refusal.row as usize)) {
-        (1, _) => format!("the file has {length} bytes"),
-        (2, _) if given.is_text() => format!("the text has {} rows", counts(bytes).join(", ")),
-        (2 | 3, _) => format!(
-            "the file has {length} bytes and counts {} rows",
-            counts(bytes).join(", ")
+        (1, _) => short(bytes),
+        (2, _) if given.is_text() => {
+            format!("the text {}, and 4,000 are the most", counted(bytes))
+        }
+        (2, _) => format!(
+            "the file has {length} bytes and {}, and 4,000 are the most",
+            counted(bytes)
         ),
+        (3, _) => format!("the file has {length} bytes and {}", counted(bytes)),
         (20, _) => {
-            let [interest, equity, ..] = counts(bytes);
+            let [interest, equity, ..] = counts(bytes).map(whole);
             format!("the file counts {interest} interest and {equity} equity rows")
         }
         (number @ (4..=9 | 15), Some((class, row))) => {
@@ -151,9 +172,17 @@ mod tests {
 
     #[test]
     fn contents_are_explained_with_their_counts() {
-        assert!(explained(&[1, 2]).ends_with("the file has 2 bytes"));
+        let begins = "; the text of a book begins with the line class,group,";
+        assert!(explained(&[1, 2]).contains(&format!("the file has 2 bytes{begins}")));
+        assert!(explained(&[]).contains(&format!("the file is empty{begins}")));
         let text = explained(&[1, 0, 2, 0, 0, 0, 0, 0]);
-        assert!(text.ends_with("the file has 8 bytes and counts 1, 2, 0, 0 rows"));
+        assert!(text.ends_with("the file has 8 bytes and counts 1, 2, 0, 0 rows, together 3"));
+        let text = explained(&[0xa0, 0x0f, 0, 0, 1, 0, 0, 0]);
+        let counts = "counts 4,000, 0, 1, 0 rows, together 4,001, and 4,000 are the most";
+        assert!(text.ends_with(&format!("the file has 8 bytes and {counts}")));
+        // Of a longer file no more is read.
+        let text = explained(&[0; 64_009]);
+        assert!(text.ends_with("has more than 64,008 bytes and counts 0, 0, 0, 0 rows, together 0"));
     }
 
     /// Catches a small bank's book that is told without what it should not have.

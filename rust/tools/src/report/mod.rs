@@ -10,7 +10,7 @@ mod refused;
 use crate::cli::{no, Args, Choice, Command, Outcome, Part, Value};
 use crate::files::{input, print};
 use crate::forms::{self, Form};
-use crate::load::read_book;
+use crate::load::read_noted;
 use crate::table::Loaded;
 use books::Book;
 use market_risk::Report;
@@ -86,11 +86,13 @@ fn printed(
 fn run(args: &Args) -> Outcome {
     let [path] = args.files()?;
     let form = Form::of(args)?;
-    let loaded = Loaded::new(args, path)?;
-    let given = read_book(path)?;
+    let failed = |failure| form.failed(failure);
+    let loaded = Loaded::new(args, path).map_err(failed)?;
+    let given = read_noted(path).map_err(failed)?;
     let charged = market_risk::charge(&given.bytes, &loaded.table);
     let report = charged.map_err(|refusal| refused(form, path, &given, &refusal))?;
     let book = Book::decode(&given.bytes).unwrap_or_default();
+    loaded.note_beside(form);
     let printed = printed(&book, &report, &loaded, (form, args.flag("--currencies")));
     print(&printed.map_err(|why| no(format!("{}: {why}", input(path))))?)
 }

@@ -2,7 +2,7 @@
 
 use super::explain;
 use crate::cli::{no, Failure};
-use crate::files::{input, print};
+use crate::files::input;
 use crate::forms::Form;
 use crate::json::Json;
 use crate::load::Given;
@@ -22,12 +22,7 @@ fn json(refusal: &Refusal, line: Option<usize>) -> Json {
 /// Explains a refused book and, where JSON is wanted, prints the refusal.
 pub fn refused(form: Form, path: &Path, given: &Given, refusal: &Refusal) -> Failure {
     let failure = no(format!("{}: {}", input(path), explain(given, refusal)));
-    match form {
-        Form::Json => print(&format!("{}\n", json(refusal, given.line_of(refusal))))
-            .err()
-            .unwrap_or(failure),
-        Form::Text | Form::Csv => failure,
-    }
+    form.failed(failure.with(json(refusal, given.line_of(refusal))))
 }
 
 #[cfg(test)]

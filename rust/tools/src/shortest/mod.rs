@@ -4,18 +4,19 @@ mod doubt;
 mod reading;
 
 use crate::cli::{no, print, usage, Args, Choice, Command, Outcome, Part, Value};
-use crate::files::{apart, input, is_output, write};
+use crate::files::{apart, input};
 use crate::load::{read_book, Given};
 use crate::report::explain;
 use crate::text::whole;
+use crate::written::{self, length_line, Out};
+use books::Book;
 use doubt::doubt;
 use market_risk::Shortest;
-use std::path::Path;
 
 pub const COMMAND: Command = Command {
     name: "shortest",
     brief: "the shortest file that shows why a book is refused",
-    forms: &["BOOK -o FILE"],
+    forms: &["BOOK -o FILE [--csv]"],
     about: &[
         Part::Text(
             "Writes the shortest file that is refused with the same number as a refused book, \
@@ -38,7 +39,9 @@ pub const COMMAND: Command = Command {
         Part::Text(
             "so that of all rows the refused one alone is in it. No shorter file is refused \
              with that number. The file is a book like others: explain it with market-risk \
-             report, show it with market-risk unpack.",
+             report, show it with market-risk unpack. Those of 1, 2 and 3 have no rows and \
+             cannot be text: where text is asked for they are not written, and the exit status is \
+             2.",
         ),
         Part::Text(
             "Of a book that is accepted there is nothing to show: no file is written, and the \
@@ -47,18 +50,28 @@ pub const COMMAND: Command = Command {
              shows it or the library does not refuse the file alike.",
         ),
     ],
-    options: &[Choice::file(
-        "-o",
-        "FILE",
-        "the file to write; not standard output, where the refusal is told",
-    )],
+    options: &[
+        Choice::file(
+            "-o",
+            "FILE",
+            "the file to write; not standard output, where the refusal is told",
+        ),
+        written::CSV,
+    ],
     operands: Some(Value::File("BOOK")),
     run,
 };
 
-/// The library's file, held to the book, and what is told of the book's refusal; or why there is
-/// none.
-fn file_of(given: &Given) -> Result<(Vec<u8>, String), String> {
+/// What shows a book's refusal.
+struct Shown {
+    file: Vec<u8>,
+    number: u64,
+    /// What is told of the refusal.
+    told: String,
+}
+
+/// The library's file, held to the book, with the book's refusal; or why there is none.
+fn shown(given: &Given) -> Result<Shown, String> {
     let bytes = &given.bytes[..];
     let mut out = [0; 24];
     let answer = market_risk::shortest(bytes, &mut out).map_err(|refusal| refusal.to_string())?;
@@ -71,28 +84,43 @@ fn file_of(given: &Given) -> Result<(Vec<u8>, String), String> {
     };
     doubt(bytes, file).map_or(Ok(()), Err)?;
     match (file, market_risk::check(bytes)) {
-        (Some(file), Err(refusal)) => Ok((file.to_vec(), explain(given, &refusal))),
+        (Some(file), Err(refusal)) => Ok(Shown {
+            file: file.to_vec(),
+            number: refusal.number,
+            told: explain(given, &refusal),
+        }),
         _ => Err("accepted: there is no refusal to show, and nothing is written".into()),
     }
 }
 
-/// The line of the file that is written.
-fn line(to: &Path, file: &[u8], bytes: &[u8]) -> String {
-    let [length, of] = [file.len(), bytes.len()].map(|length| whole(length as u64));
-    format!("{}: {length} of {of} bytes\n", to.display())
+/// Refuses text of a file that has no rows.
+fn rows_of_text(out: &Out, shown: &Shown) -> Outcome {
+    if !out.is_text() || Book::decode(&shown.file).is_some() {
+        return Ok(());
+    }
+    let (number, instead) = (shown.number, out.instead());
+    Err(usage(&format!(
+        "shortest: a file that shows refusal {number} has no rows and cannot be text; {instead}"
+    )))
+}
+
+/// The line of the file that is written; where it is packed, beside the length of the book.
+fn line(out: &Out, length: usize, bytes: &[u8]) -> String {
+    if out.is_text() {
+        return length_line(out.to, length);
+    }
+    let [length, of] = [length, bytes.len()].map(|length| whole(length as u64));
+    format!("{}: {length} of {of} bytes\n", out.to.display())
 }
 
 fn run(args: &Args) -> Outcome {
     let [from] = args.files()?;
-    let to = args.path("-o");
-    let to = to.ok_or_else(|| usage("shortest: give -o FILE, the file to write"))?;
-    if is_output(to) {
-        let why = "shortest: -o is standard output, where the refusal is told; name a file";
-        return Err(usage(why));
-    }
-    apart(to, &[from])?;
+    let out = Out::beside(args, ["shortest", "the refusal is told"])?;
+    let out = out.ok_or_else(|| COMMAND.incomplete(args))?;
+    apart(out.to, &[from])?;
     let given = read_book(from)?;
-    let (file, told) = file_of(&given).map_err(|why| no(format!("{}: {why}", input(from))))?;
-    write(to, &file)?;
-    print(&format!("{told}\n{}", line(to, &file, &given.bytes)))
+    let shown = shown(&given).map_err(|why| no(format!("{}: {why}", input(from))))?;
+    rows_of_text(&out, &shown)?;
+    let line = line(&out, out.write(&shown.file)?, &given.bytes);
+    print(&format!("{}\n{line}", shown.told))
 }

@@ -7,7 +7,7 @@ mod tables;
 use crate::cli::{no, Args, Command, Outcome, Part, Value};
 use crate::files::{input, print};
 use crate::lines::{hold, show, Line};
-use crate::load::read_book;
+use crate::load::read_noted;
 use crate::report::explain;
 use adding_up::lines;
 use books::Book;
@@ -85,7 +85,7 @@ fn text(book: &Book, charged: &SmallBank) -> Result<String, String> {
 
 fn run(args: &Args) -> Outcome {
     let [path] = args.files()?;
-    let given = read_book(path)?;
+    let given = read_noted(path)?;
     let charged = market_risk::small_bank(&given.bytes);
     let explained = charged.map_err(|refusal| explain(&given, &refusal));
     let book = Book::decode(&given.bytes).unwrap_or_default();

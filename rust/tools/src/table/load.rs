@@ -1,12 +1,15 @@
 //! The table that a command works under.
 
 use super::conditions::accepted;
-use crate::cli::{no, Args, Failure};
-use crate::files::{input, once, read};
+use crate::cli::{Args, Failure};
+use crate::files::{once, read};
+use crate::forms;
+use crate::load::{foreign, note, unread, Unread};
+use crate::name::name;
 use books::tables::text::{parse, write};
 use books::tables::{self, TABLE_BYTES};
 use market_risk::Table;
-use std::path::Path;
+use std::path::{Path, PathBuf};
 
 /// The two forms of a table: 36 bytes, or text.
 #[derive(Clone, Copy, Debug, PartialEq, Eq)]
@@ -14,6 +17,9 @@ pub enum Form {
     Bytes,
     Text,
 }
+
+/// The most bytes of a table's text, with comments and all.
+const MOST_TEXT: usize = 64_000;
 
 /// The form of a file. No text of 36 bytes is a table: its first line alone has 37.
 fn form(file: &[u8]) -> Form {
@@ -26,26 +32,34 @@ fn form(file: &[u8]) -> Form {
 }
 
 /// The table of a file in either form, or why it has none.
-fn table_of(file: &[u8]) -> Result<(Table, Form), String> {
-    match (form(file), std::str::from_utf8(file)) {
-        (Form::Text, Ok(text)) => {
-            let table = parse(text).map_err(|error| error.to_string())?;
-            Ok((accepted(&table.encode())?, Form::Text))
-        }
-        _ => Ok((accepted(file)?, Form::Bytes)),
+fn table_of(file: &[u8]) -> Result<(Table, Form), Unread> {
+    if file.len() > MOST_TEXT {
+        let what = "more than 64,000 bytes, and a table is 36, or text of seven lines";
+        return Err(what.to_string().into());
     }
+    match (form(file), std::str::from_utf8(file)) {
+        (Form::Text, Ok(text)) => Ok((accepted(&parse(text)?.encode())?, Form::Text)),
+        _ => match accepted(file) {
+            Ok(table) => Ok((table, Form::Bytes)),
+            Err(why) => Err(of_bytes(file, why).into()),
+        },
+    }
+}
+
+/// What is told of bytes that are no table: what they are where that is known, else their refusal.
+fn of_bytes(file: &[u8], refused: String) -> String {
+    foreign(file).map_or(refused, String::from)
 }
 
 /// Reads a table in either form.
 pub fn read_table(path: &Path) -> Result<(Table, Form), Failure> {
-    let named = |why: String| no(format!("{}: {why}", input(path)));
-    table_of(&read(path)?).map_err(named)
+    table_of(&read(path, |_| MOST_TEXT)?).map_err(|why| unread(path, &why))
 }
 
-/// A table and, where it was read, the name of its file.
+/// A table and, where it was read, its file.
 pub struct Loaded {
     pub table: Table,
-    name: Option<String>,
+    file: Option<PathBuf>,
 }
 
 impl Default for Loaded {
@@ -53,7 +67,7 @@ impl Default for Loaded {
     fn default() -> Loaded {
         Loaded {
             table: Table::amendment(),
-            name: None,
+            file: None,
         }
     }
 }
@@ -67,17 +81,27 @@ impl Loaded {
         once(&[book, path])?;
         Ok(Loaded {
             table: read_table(path)?.0,
-            name: Some(input(path)),
+            file: Some(path.into()),
         })
     }
 
-    /// What is printed above the figures under a table that is not document 01's.
+    /// Tells on standard error, beside CSV text, which has no place for it, that the table is not document
+    /// 01's.
+    pub fn note_beside(&self, form: forms::Form) {
+        if let (Some(file), forms::Form::Csv, false) = (&self.file, form, self.note().is_empty()) {
+            note(file, "figures are under this table, not document 01's");
+        }
+    }
+
+    /// What is printed above the figures under a table that is not document 01's, in lines of at
+    /// most 100 columns.
     pub fn note(&self) -> String {
-        match &self.name {
-            Some(name) if self.table != Table::amendment() => {
+        match &self.file {
+            Some(file) if self.table != Table::amendment() => {
                 let text = text_of(&self.table);
                 let (weights, per_cents) = text.split_once('\n').unwrap_or_default();
                 let per_cents = per_cents.trim_end().replace('\n', ", ");
+                let name = name(file);
                 format!("under {name}, not document 01's table:\n{weights}\n{per_cents}\n\n")
             }
             _ => String::new(),
@@ -94,6 +118,13 @@ pub fn text_of(table: &Table) -> String {
 #[cfg(test)]
 mod tests {
     use super::*;
+    use crate::text::COLUMNS;
+
+    /// What is printed above the figures under a table of a file.
+    fn note(table: Table, file: Option<&str>) -> String {
+        let file = file.map(PathBuf::from);
+        Loaded { table, file }.note()
+    }
 
     #[test]
     fn forms_are_told_apart() {
@@ -122,21 +153,22 @@ mod tests {
         assert_eq!(table_of(table.bytes()), Ok((table, Form::Bytes)));
         assert_eq!(table_of(text.as_bytes()), Ok((table, Form::Text)));
         let broken = text.replace("vertical 10", "vertical 31");
-        let told = table_of(broken.as_bytes()).unwrap_err();
-        assert!(told
+        let told = |text: &str| match table_of(text.as_bytes()).unwrap_err() {
+            Unread::Whole(what) => what,
+            Unread::Lines(faults) => faults.to_string(),
+        };
+        assert!(told(&broken)
             .ends_with("\nvertical is 31%, over zone-2's 30%\nvertical is 31%, over zone-3's 30%"));
-        let told = table_of(text.replace("vertical", "horizontal").as_bytes());
         let line = "line 2: the line of vertical is wanted here, not 'horizontal'";
-        assert_eq!(told.unwrap_err(), line);
+        assert_eq!(told(&text.replace("vertical", "horizontal")), line);
+        let long = format!("{text}#{}", " ".repeat(MOST_TEXT));
+        assert!(table_of(&long.as_bytes()[..MOST_TEXT]).is_ok());
+        assert!(told(&long[..=MOST_TEXT]).starts_with("more than 64,000 bytes"));
     }
 
     /// Catches a loaded table that is not told of, and document 01's that is.
     #[test]
     fn a_note_stands_where_the_table_is_not_document_01s() {
-        let note = |table, name: Option<&str>| {
-            let name = name.map(String::from);
-            Loaded { table, name }.note()
-        };
         let other = Table::new(&[0; 36]).unwrap();
         assert_eq!(note(Table::amendment(), None), "");
         assert_eq!(note(Table::amendment(), Some("own")), "");
@@ -148,5 +180,30 @@ mod tests {
         ];
         let note = note(other, Some("own"));
         assert_eq!(note.lines().collect::<Vec<_>>(), expected);
+    }
+
+    /// Catches a note that depends on the folder that the table's file is in, and one that a file's
+    /// name breaks or makes too long.
+    #[test]
+    fn a_note_fits_wherever_the_table_is_and_whatever_it_is_called() {
+        let dearest = [2_000u16.to_le_bytes().repeat(15), vec![100; 6]].concat();
+        let dearest = Table::new(&dearest).unwrap();
+        let folder = "a folder of some length/".repeat(9);
+        for name in [
+            "own",
+            "-",
+            "a\nb\r\u{1b}",
+            &"n".repeat(255),
+            &"\n".repeat(255),
+        ] {
+            let deep = note(dearest, Some(&format!("/{folder}{name}")));
+            assert_eq!(deep, note(dearest, Some(&format!("./{name}"))));
+            assert_eq!(deep.lines().count(), 4);
+            for line in deep.lines() {
+                assert!(line.chars().count() <= COLUMNS, "{line}");
+                assert!(!line.contains(char::is_control), "{line:?}");
+            }
+        }
+        assert!(note(dearest, Some("-")).starts_with("under standard input, not "));
     }
 }

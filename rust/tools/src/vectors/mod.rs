@@ -137,7 +137,7 @@ fn run(args: &Args) -> Outcome {
         (None, Some(folder)) => {
             let shown = folder.display();
             for (name, bytes) in &files {
-                if read(folder.join(name))? != *bytes {
+                if read(&folder.join(name), |_| bytes.len())? != *bytes {
                     return Err(no(format!(
                         "{shown}/{name} is not current: run vectors --write {shown}"
                     )));

@@ -11,6 +11,9 @@ use super::records::{Record, Records};
 use super::separator::separated;
 use std::borrow::Cow;
 
+/// The most faults of a header that are told.
+const MOST_FAULTS: usize = 20;
+
 /// The names of a header of which N are wanted.
 pub fn names<const N: usize>(header: &str) -> [&str; N] {
     let mut names = header.split(',');
@@ -59,8 +62,7 @@ impl<const N: usize> Columns<N> {
         let faults = faults(wanted, given);
         if !faults.is_empty() {
             let what = format!("{faults}; the columns are {}", wanted.join(", "));
-            let line = header.line;
-            return Err(LineError { line, what });
+            return Err(LineError::new(header.line, what));
         }
         let place = |name: &str| given.iter().position(|given| is(name, given));
         Ok(Columns {
@@ -106,6 +108,11 @@ fn faults(wanted: &[&str], given: &[Cow<str>]) -> String {
     }
     let missing = wanted.iter().filter(|name| found(&[name], given) == 0);
     faults.extend(missing.map(|name| format!("{name} is missing")));
+    let more = faults.len().saturating_sub(MOST_FAULTS);
+    faults.truncate(MOST_FAULTS);
+    if more > 0 {
+        faults.push(format!("{more} faults more"));
+    }
     faults.join("; ")
 }
 
@@ -117,9 +124,9 @@ pub fn read<'a, const N: usize>(
     let text = text.strip_prefix('\u{feff}').unwrap_or(text);
     let found_in = |header: &Record| found(wanted, &header.fields);
     let (separator, mut records) = separated(text, found_in)?;
-    let none = || LineError {
-        line: 1,
-        what: format!("there is no header; the columns are {}", wanted.join(", ")),
+    let none = || {
+        let columns = wanted.join(", ");
+        LineError::new(1, format!("there is no header; the columns are {columns}"))
     };
     let header = records.next().unwrap_or_else(|| Err(none()))?;
     Ok((Columns::of(wanted, &header, separator)?, records))

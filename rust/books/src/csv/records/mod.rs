@@ -3,7 +3,8 @@
 //! A line ends with LF, CRLF or CR. A field in double quotes may hold separators and line ends, and a
 //! quote of its own where it is doubled. Blanks around a field, and around its quotes, are not of it.
 //! Passed over are lines whose first sign is #, also where a spreadsheet puts the whole comment into
-//! quotes, and lines that have nothing but blanks and separators.
+//! quotes, and lines that have nothing but blanks and separators. A row that begins with an error of a
+//! spreadsheet or a feed, such as #REF! or #N/A Invalid Security, is no comment.
 
 #[cfg(test)]
 mod tests;
@@ -19,6 +20,29 @@ pub(super) fn lines_in(text: &str) -> usize {
     text.matches(LINE_ENDS).count() - text.matches("\r\n").count()
 }
 
+/// The fields that every row has beside its first: of class, group, kind, long and short.
+const ALWAYS: usize = 4;
+
+/// Whether a field that begins with # is as a spreadsheet shows an error, or a number that its column is too
+/// narrow for: at least one sign more, without blanks and small letters.
+fn error_shown(field: &str) -> bool {
+    let shown = |sign: char| !sign.is_whitespace() && !sign.is_lowercase();
+    field.len() > 1 && field.chars().all(shown)
+}
+
+/// What is told of a row that begins as a comment does: no blank stands behind its #, and it has the fields
+/// of a row, or one beside an error.
+fn hidden<'a>(mut fields: impl Iterator<Item = &'a str>) -> Option<String> {
+    let first = fields.next()?;
+    let behind = first.strip_prefix('#')?;
+    let others = fields.filter(|field| !field.is_empty()).count();
+    let row = others >= if error_shown(first) { 1 } else { ALWAYS };
+    (row && !behind.is_empty() && !behind.starts_with(char::is_whitespace)).then(|| {
+        let first = shown(first);
+        format!("a row begins with {first}; a comment has a blank behind its #")
+    })
+}
+
 /// The fields of a line, and the line that they begin on.
 #[derive(Clone, Debug, PartialEq, Eq)]
 pub struct Record<'a> {
@@ -31,6 +55,12 @@ impl Record<'_> {
     fn passed_over(&self) -> bool {
         let comment = self.fields[0].starts_with('#');
         comment || self.fields.iter().all(|field| field.is_empty())
+    }
+
+    /// What is told of a row that begins as a comment does.
+    fn hidden(&self) -> Option<LineError> {
+        let fields = self.fields.iter().map(|field| &**field);
+        hidden(fields).map(|what| LineError::new(self.line, what))
     }
 }
 
@@ -103,10 +133,8 @@ impl<'a> Records<'a> {
             field.push_str(self.take(1));
         }
         self.take(self.rest.len());
-        Err(LineError {
-            line: begins,
-            what: "a quote begins here that is not closed".into(),
-        })
+        let what = "a quote begins here that is not closed".to_string();
+        Err(LineError::new(begins, what))
     }
 
     /// Holds what stands after a closing quote to blanks.
@@ -120,7 +148,7 @@ impl<'a> Records<'a> {
                     "{} stands after a closing quote; a quote within quotes is doubled",
                     shown(&rest)
                 );
-                Err(LineError { line, what })
+                Err(LineError::new(line, what))
             }
         }
     }
@@ -142,6 +170,21 @@ impl<'a> Records<'a> {
         Ok((field, more))
     }
 
+    /// Takes a comment away, if one begins here; a row that begins as one is told.
+    fn take_comment(&mut self) -> Result<(), LineError> {
+        if !self.past_blanks().starts_with('#') {
+            return Ok(());
+        }
+        let (line, text) = (self.line, self.take_line());
+        match hidden(text.split(self.separator).map(str::trim)) {
+            Some(what) => {
+                self.take_line_end();
+                Err(LineError::new(line, what))
+            }
+            None => Ok(()),
+        }
+    }
+
     /// The fields of the next line.
     fn record(&mut self) -> Result<Record<'a>, LineError> {
         let (line, mut fields, mut more) = (self.line, Vec::new(), true);
@@ -161,11 +204,14 @@ impl<'a> Iterator for Records<'a> {
 
     fn next(&mut self) -> Option<Self::Item> {
         while !self.rest.is_empty() {
-            if self.past_blanks().starts_with('#') {
-                self.take_line();
+            if let Err(fault) = self.take_comment() {
+                return Some(Err(fault));
             }
             match self.record() {
-                Ok(record) if record.passed_over() => continue,
+                Ok(record) if record.passed_over() => match record.hidden() {
+                    Some(fault) => return Some(Err(fault)),
+                    None => continue,
+                },
                 record => return Some(record),
             }
         }

@@ -72,3 +72,40 @@ fn comments_and_empty_lines_are_passed_over() {
     // Under another separator these are signs.
     assert_eq!(cut(',', ";;\n"), ["1: ;;"]);
 }
+
+/// Catches a row that is left out of the total because its first field is an error of a spreadsheet, and a
+/// comment that is taken for one.
+#[test]
+fn a_row_that_begins_with_an_error_is_no_comment() {
+    let why = "a comment has a blank behind its #";
+    for error in [
+        "#REF!", "#N/A", "#NAME?", "#DIV/0!", "#NV", "######", "#BEZUG!",
+    ] {
+        for quote in ["", "\""] {
+            let text = format!("a,b\n {quote}{error}{quote} ,7,5\nc,d");
+            let told = format!("line 2: a row begins with '{error}'; {why}");
+            assert_eq!(cut(',', &text), ["1: a|b", &told, "3: c|d"]);
+        }
+    }
+    for error in ["#N/A Invalid Security", "#n/a", "#Wert!", "#interest"] {
+        let text = format!("a,b\n{error},7,other,9,,5,0\nc,d");
+        let told = format!("line 2: a row begins with '{error}'; {why}");
+        assert_eq!(cut(',', &text), ["1: a|b", &told, "3: c|d"]);
+    }
+    for comment in [
+        "# interest,7,other,9,8,5,0",
+        "#a, b, c, d",
+        "#,7,other,9,8,5,0",
+        "# REF!,7",
+        "#ref,7",
+        "#,7",
+        "#REF!",
+        "#REF!,,",
+        "\"#TODO\",",
+        "# a",
+        "####",
+    ] {
+        let text = format!("a,b\n{comment}\nc,d");
+        assert_eq!(cut(',', &text), ["1: a|b", "3: c|d"], "{comment}");
+    }
+}

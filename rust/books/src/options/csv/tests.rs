@@ -38,7 +38,7 @@ fn each_column_is_its_field() {
 #[test]
 fn options_keep_their_order_and_their_lines() {
     let (share, gold) = (
-        "equity,3,sold put,index,7,1,2,3,4,0",
+        "equity,3,sold put,index,7,1001,2,3,4000,0",
         "fx,0,bought put,none,1,0,0,0,0,0",
     );
     let loose = format!(
@@ -110,8 +110,10 @@ fn errors_name_the_line_and_the_field() {
         told("commodity", "equity"),
         format!("kind is 'none', {kinds}")
     );
-    let kinds = "not a whole number";
+    let kinds = "not a whole number; write a whole number of 0 to 255";
     assert_eq!(told("commodity", "7"), format!("kind is 'none', {kinds}"));
+    let why = "write it in days: a month is 30, a year 360; 0 for stock";
+    assert_eq!(told("1081", ""), format!("days is empty; {why}"));
 }
 
 /// Catches a number that is cut to its bytes.
@@ -120,30 +122,39 @@ fn numbers_must_be_whole_and_fit() {
     for (delta, why) in [
         (
             "0.721",
-            "'0.721': decimals are not taken; write a whole number",
+            "'0.721': decimals are not taken; write it in ten-thousandths: 0.721 is 7210",
         ),
-        ("-7210", "'-7210': signs are not taken; write digits alone"),
-        ("", "empty; a whole number is wanted"),
+        (
+            "-7210",
+            "'-7210': a number below zero is not taken; \
+             write it without its sign, in ten-thousandths: 0.5 is 5000",
+        ),
+        ("", "empty; write it in ten-thousandths: 0.5 is 5000"),
     ] {
         assert_eq!(told("7210", delta), format!("delta is {why}"));
     }
-    for (name, value, most) in [
-        ("group", "4", 255),
-        ("amount", "25000", 4_294_967_295u64),
-        ("delta", "7210", 65_535),
-        ("gamma", "170", 65_535),
-        ("vega", "84", 65_535),
-        ("volatility", "2000", 65_535),
+    for (name, value, most, range) in [
+        ("group", "4", 255, "0 to 31"),
+        ("amount", "25000", 4_294_967_295u64, "1 to 1,000,000"),
+        ("delta", "7210", 65_535, "0 to 10,000"),
+        (
+            "gamma (change of delta for a move of 1%)",
+            "170",
+            65_535,
+            "0 to 65,535",
+        ),
+        ("vega", "84", 65_535, "0 to 65,535"),
+        ("volatility", "2000", 65_535, "0 to 65,535"),
     ] {
         let over = most + 1;
-        let why = format!("{name} is {over}, too large for its bytes");
+        let why = format!("{name} is '{over}', and may be {range}");
         assert_eq!(told(&format!(",{value},"), &format!(",{over},")), why);
         let fits = LINE.replacen(&format!(",{value},"), &format!(",{most},"), 1);
         assert!(parse(&format!("{HEADER}\n{fits}\n")).is_ok());
     }
     assert_eq!(
         told("1081", "65536"),
-        "days is 65536, too large for its bytes"
+        "days is '65536', and may be 0 to 36,000"
     );
 }
 
@@ -159,7 +170,7 @@ fn a_table_may_be_written_as_spreadsheets_do() {
         "fx,0,bought call,none,1500,6001,260,4,1450,0"
     );
     let without = parse(&text.replace(";260;", ";;")).unwrap_err();
-    let why = "line 4: gamma is empty; a whole number is wanted";
+    let why = "line 4: gamma (change of delta for a move of 1%) is empty; write it in ten-thousandths: 0.5 is 5000";
     assert_eq!(without.to_string(), why);
 }
 

@@ -11,7 +11,7 @@ const TEXT: &str = "class,group,right,kind,amount,delta,gamma,vega,volatility,da
 equity,3,sold call,ordinary,1000,5000,10,1,2000,0
 equity,3,bought call,ordinary,100,5000,10,2,1000,0
 equity,7,sold put,index,2000,2500,5,1,1000,0
-fx,5,bought put,none,400,5000,1,1,100,0
+fx,5,bought put,none,400,5000,1,1,0100,0
 commodity,4,sold call,none,25000,7210,170,84,2000,1081
 ";
 
