@@ -8,7 +8,7 @@ use Rattle.table.specs.Loaded.{tableOf, tableRefusal, standardBytes}
 use Rattle.layout.specs.Files.{twoBytes, bookOf}
 use Rattle.charges.specs.Report.{reportOf, interestLadderOf}
 use Rattle.market_risk.specs.Entries.{reportEntries, interestEntries}
-use Rattle.claims.specs.Worked.{Worked, government}
+use Rattle.worked.specs.Worked.{Worked, government}
 
 -- the bytes of a table: its weights, then vertical, zones 1, 2 and 3, adjacent, 1-3
 abbrev pub tableBytes : (weights percents : List ℕ) → List ℕ

@@ -10,9 +10,9 @@ use Rattle.options.specs.Delta.{isLong, deltaAmount, deltaLeg, deltaLegs, delta
 use Rattle.options.specs.Greeks.{isBought, boughtIn, soldIn, sidesIn, moveOf, twiceGamma, halfShort, gammaCharge, vegaOf, vegaCharge}
 use Rattle.options.specs.Options.{optionsBook, pricingRefusal, byClass, pricedOf, pricingOutput}
 use Rattle.market_risk.specs.Entries.{pricedEntries}
-use Rattle.claims.specs.Worked.{Worked}
-use Rattle.claims.specs.OptionsFacts.{priceFacts, deltaFacts, refusedFacts, greekFacts}
-use Rattle.claims.proofs.WorkedBooks.{given}
+use Rattle.worked.specs.Worked.{Worked}
+use Rattle.worked.specs.OptionsFacts.{priceFacts, deltaFacts, refusedFacts, greekFacts}
+use Rattle.worked.proofs.WorkedBooks.{given}
 
 unfoldable optionRows : List Worked → List Worked
 unfolding optionCount decodeOption optionAt optionsOf lengthRefused sortAllowed sizeAllowed allowed firstOutside optionsRefusal

@@ -5,11 +5,11 @@ use mathlib.Core.List.{List, map}
 use Prim.Native.Nat.{ℕ}
 use Rattle.offsetting.specs.NetOffset.{netOffsetBook, netOffsetRefusal, netOffsetOf, netOffsetOutput}
 use Rattle.market_risk.specs.Entries.{nettedEntries}
-use Rattle.claims.specs.Worked.{Worked}
-use Rattle.claims.specs.OrderFacts.{eitherOrderFacts, oneCallFacts}
-use Rattle.claims.proofs.WorkedBooks.{given}
-use Rattle.claims.proofs.NettingBooks.{netted}
-use Rattle.claims.proofs.OffsettingBooks.{offset}
+use Rattle.worked.specs.Worked.{Worked}
+use Rattle.worked.specs.OrderFacts.{eitherOrderFacts, oneCallFacts}
+use Rattle.worked.proofs.WorkedBooks.{given}
+use Rattle.worked.proofs.NettingBooks.{netted}
+use Rattle.worked.proofs.OffsettingBooks.{offset}
 
 unfoldable pub ordered : List Worked → List (List ℕ)
 unfolding netted offset netOffsetBook netOffsetRefusal netOffsetOf netOffsetOutput nettedEntries

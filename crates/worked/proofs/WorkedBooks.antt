@@ -25,11 +25,11 @@ use Rattle.charges.specs.Report.{reportWith, refusedReport, chargedReport, befo
 use Rattle.charges.specs.SmallBank.{smallNumber, smallRefusal, smallWith, smallBankOf}
 use Rattle.join.specs.Joined.{addedCounts, joinedCounts, joinedBody, joined, inBook, settled, joinRefusal, joinedOf, joinOutput}
 use Rattle.market_risk.specs.Entries.{refusalEntries, reportFigures, reportEntries, interestEntries, commodityEntries, smallFigures, smallEntries, joinedEntries}
 use Rattle.claims.specs.Demands.{joinedBook}
-use Rattle.claims.specs.Worked.{Worked, worked}
-use Rattle.claims.specs.Tables.{refusedTables, loadedFacts, orderFacts}
-use Rattle.claims.specs.SmallFacts.{smallFacts}
-use Rattle.claims.specs.Facts.{tableFacts, costFacts, currencyFacts, ladderFacts, refusalFacts, joinFacts}
+use Rattle.worked.specs.Worked.{Worked, worked}
+use Rattle.worked.specs.Tables.{refusedTables, loadedFacts, orderFacts}
+use Rattle.worked.specs.SmallFacts.{smallFacts}
+use Rattle.worked.specs.Facts.{tableFacts, costFacts, currencyFacts, ladderFacts, refusalFacts, joinFacts}
 
 -- what the definitions give: an unfolding is inherited, so each layer names its own and `given` unfolds with all of them
 unfoldable file : List Worked → List Worked

@@ -15,11 +15,11 @@ use Rattle.charges.specs.Bands.{bandIn}
 use Rattle.charges.specs.Report.{classRows, reportOf}
 use Rattle.join.specs.Joined.{joinRefusal}
 use Rattle.market_risk.specs.Entries.{reportFigures}
 use Rattle.claims.specs.Zones.{TwoZonesEach}
 use Rattle.claims.specs.Demands.{Within, all-within, one-within, AtMost, no-figures, figure, joinedBook}
-use Rattle.claims.specs.Worked.{firstZone, secondZone, JoinedWithin}
+use Rattle.worked.specs.Worked.{firstZone, secondZone, JoinedWithin}
 use Rattle.claims.proofs.Joining.{joining}
-use Rattle.claims.proofs.WorkedBooks.{given}
+use Rattle.worked.proofs.WorkedBooks.{given}
 
 -- ---- what is computed
 abbrev out : List ℕ

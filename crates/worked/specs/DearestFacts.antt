@@ -5,7 +5,7 @@ use lib.ListN.{replicate}
 use Rattle.layout.specs.Files.{bookOf}
 use Rattle.market_risk.specs.Entries.{costedEntries}
 use Rattle.dearest.specs.Dearest.{limitsRefusal, dearestOf, dearestOutput}
-use Rattle.claims.specs.Worked.{Worked, leg, equity, currency, commodity, costs}
+use Rattle.worked.specs.Worked.{Worked, leg, equity, currency, commodity, costs}
 
 -- its answer, with so many bytes of room: number, row, book, length, total
 abbrev pub answers : (rows most room : ℕ) → List ℕ → Worked

@@ -5,8 +5,8 @@ use lib.ListN.{replicate}
 use Rattle.book.specs.Legs.{Leg}
 use Rattle.layout.specs.Files.{bookOf}
 use Rattle.offsetting.specs.Offset.{offsetBook, offsetOf, offsettingOutput}
-use Rattle.claims.specs.Worked.{Worked, leg, government, costs}
-use Rattle.claims.specs.WrittenBooks.{issued, bond, share, writes, answered}
+use Rattle.worked.specs.Worked.{Worked, leg, government, costs}
+use Rattle.worked.specs.WrittenBooks.{issued, bond, share, writes, answered}
 
 -- ---- what offsetting does with some legs
 -- they are not refused, and are written as others

@@ -8,8 +8,8 @@ use Rattle.netting.specs.Netted.{nettedBook, nettedOf}
 use Rattle.offsetting.specs.Offset.{offsetBook}
 use Rattle.offsetting.specs.NetOffset.{netOffsetBook, netOffsetOf, netOffsetOutput}
 use Rattle.market_risk.specs.Entries.{nettedEntries}
-use Rattle.claims.specs.Worked.{Worked, costs}
-use Rattle.claims.specs.WrittenBooks.{bondIn, answered}
+use Rattle.worked.specs.Worked.{Worked, costs}
+use Rattle.worked.specs.WrittenBooks.{bondIn, answered}
 
 -- ---- the books: government rows of currency 7
 -- a pair that fits, of which the short row shares its issue number with a third row

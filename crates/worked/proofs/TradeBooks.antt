@@ -5,9 +5,9 @@ use mathlib.Core.List.{List, map}
 use Prim.Native.Nat.{ℕ}
 use Rattle.market_risk.specs.Entries.{tradeEntries}
 use Rattle.trade.specs.Trade.{chargeWith, leastFrom, leastWithin, placeRefusal, tradeRefusal, leastTradeOf}
-use Rattle.claims.specs.Worked.{Worked}
-use Rattle.claims.specs.TradeFacts.{tradeFacts, bandFacts, turnFacts, placeFacts}
-use Rattle.claims.proofs.WorkedBooks.{given}
+use Rattle.worked.specs.Worked.{Worked}
+use Rattle.worked.specs.TradeFacts.{tradeFacts, bandFacts, turnFacts, placeFacts}
+use Rattle.worked.proofs.WorkedBooks.{given}
 
 unfoldable pub traded : List Worked → List (List ℕ)
 unfolding given tradeEntries chargeWith leastFrom leastWithin placeRefusal tradeRefusal leastTradeOf

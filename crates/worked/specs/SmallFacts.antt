@@ -5,7 +5,7 @@ use lib.ListN.{replicate}
 use Rattle.layout.specs.Files.{twoBytes, bookOf}
 use Rattle.charges.specs.SmallBank.{smallBankOf}
 use Rattle.market_risk.specs.Entries.{smallEntries}
-use Rattle.claims.specs.Worked.{Worked, leg, government, equity, currency, commodity, commodityExample, currencyExample}
+use Rattle.worked.specs.Worked.{Worked, leg, government, equity, currency, commodity, commodityExample, currencyExample}
 
 abbrev pub smallCosts : List ℕ → (exchange commodity total : ℕ) → Worked
 smallCosts book exchange commodity total = record { given = smallEntries (smallBankOf book); expected = 0 ∷ 0 ∷ 0 ∷ exchange ∷ commodity ∷ total ∷ [] }

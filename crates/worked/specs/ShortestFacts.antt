@@ -6,8 +6,8 @@ use Rattle.book.specs.Legs.{Leg}
 use Rattle.layout.specs.Files.{bookOf}
 use Rattle.shortest.specs.Shortest.{shortestOf, shortestOutput}
 use Rattle.market_risk.specs.Entries.{shownEntries}
-use Rattle.claims.specs.Worked.{Worked}
-use Rattle.claims.specs.WrittenBooks.{issued, bond, share}
+use Rattle.worked.specs.Worked.{Worked}
+use Rattle.worked.specs.WrittenBooks.{issued, bond, share}
 
 -- into so many bytes, each 5 before: number, row, book, length, mark; and the output afterwards
 abbrev pub shows : (s : List ℕ) (room : ℕ) (entries output : List ℕ) → Worked

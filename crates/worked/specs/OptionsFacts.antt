@@ -7,7 +7,7 @@ use Rattle.layout.specs.Files.{twoBytes, fourBytes, bookOf}
 use Rattle.options.specs.Refusals.{optionsRefusal}
 use Rattle.options.specs.Options.{pricedOf, pricingOutput}
 use Rattle.market_risk.specs.Entries.{refusalEntries, pricedEntries}
-use Rattle.claims.specs.Worked.{Worked, equity, currency, commodity}
+use Rattle.worked.specs.Worked.{Worked, equity, currency, commodity}
 
 -- ---- option tables
 -- the eighteen bytes of a row

@@ -6,9 +6,9 @@ use Rattle.book.specs.Legs.{Leg}
 use Rattle.layout.specs.Files.{bookOf}
 use Rattle.netting.specs.Netted.{issuesRefusal, nettedBook, nettedOf, nettingOutput}
 use Rattle.market_risk.specs.Entries.{refusalEntries}
 use Rattle.claims.specs.Demands.{joinedBook}
-use Rattle.claims.specs.Worked.{Worked, costs}
-use Rattle.claims.specs.WrittenBooks.{issued, bond, share, writes, answered}
+use Rattle.worked.specs.Worked.{Worked, costs}
+use Rattle.worked.specs.WrittenBooks.{issued, bond, share, writes, answered}
 
 -- ---- what netting does with some legs
 -- they are not refused, and are written as others

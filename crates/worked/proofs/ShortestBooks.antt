@@ -6,10 +6,10 @@ use Prim.Native.Nat.{ℕ}
 use Rattle.shortest.specs.Shortest.{someRow, legAlone, fileShowing, shortestFile, shortestRefusal, shortestOf, shortestOutput}
 use Rattle.market_risk.specs.Entries.{shownEntries}
 use Rattle.book.specs.Parts.{accepts}
-use Rattle.claims.specs.Worked.{Worked}
-use Rattle.claims.specs.ShortestFacts.{contentsFacts, rowFacts}
-use Rattle.claims.proofs.WorkedBooks.{given}
-use Rattle.claims.proofs.NettingBooks.{netted}
+use Rattle.worked.specs.Worked.{Worked}
+use Rattle.worked.specs.ShortestFacts.{contentsFacts, rowFacts}
+use Rattle.worked.proofs.WorkedBooks.{given}
+use Rattle.worked.proofs.NettingBooks.{netted}
 
 unfoldable pub shown : List Worked → List (List ℕ)
 unfolding netted accepts someRow legAlone fileShowing shortestFile shortestRefusal shortestOf shortestOutput shownEntries

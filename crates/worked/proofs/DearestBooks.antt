@@ -6,9 +6,9 @@ use Prim.Native.Nat.{ℕ}
 use Rattle.layout.specs.Room.{orNext, roomRefusal, figureOf, outputOf}
 use Rattle.market_risk.specs.Entries.{costedEntries}
 use Rattle.dearest.specs.Dearest.{dearestRow, dearestBook, limitsRefusal, dearestRefusal, dearestOf, dearestOutput}
-use Rattle.claims.specs.Worked.{Worked}
-use Rattle.claims.specs.DearestFacts.{dearestFacts, cheaperFacts}
-use Rattle.claims.proofs.WorkedBooks.{given}
+use Rattle.worked.specs.Worked.{Worked}
+use Rattle.worked.specs.DearestFacts.{dearestFacts, cheaperFacts}
+use Rattle.worked.proofs.WorkedBooks.{given}
 
 unfoldable pub dearest : List Worked → List (List ℕ)
 unfolding given costedEntries orNext roomRefusal figureOf outputOf dearestRow dearestBook limitsRefusal dearestRefusal dearestOf dearestOutput

@@ -11,8 +11,8 @@ use Rattle.charges.specs.Bands.{commodityBand}
 use Rattle.charges.specs.Report.{interestLadderOf, commodityLadderOf}
 use Rattle.join.specs.Joined.{joinedOf}
 use Rattle.market_risk.specs.Entries.{interestEntries, commodityEntries, joinedEntries}
 use Rattle.claims.specs.Demands.{joinedBook}
-use Rattle.claims.specs.Worked.{Worked, leg, government, equity, currency, commodity, costs, splits, refuses, bandAt, interestExample, commodityExample, oneRow}
+use Rattle.worked.specs.Worked.{Worked, leg, government, equity, currency, commodity, costs, splits, refuses, bandAt, interestExample, commodityExample, oneRow}
 
 -- the band of each last day, and of the day after it
 abbrev pub lastDays : (ℕ → ℕ) → List ℕ → Worked

@@ -9,10 +9,10 @@ use Rattle.issues.specs.Comparing.{comparedWith, comparisonsFrom}
 use Rattle.layout.specs.Files.{bookOf}
 use Rattle.layout.specs.Room.{orNext, roomRefusal, figureOf, outputOf}
 use Rattle.netting.specs.Netted.{firstFound, foundInClass, issuesRefusal, nettedBook, comparisonsOf, nettingRefusal, nettedAnswer, nettedOf, nettingOutput}
-use Rattle.claims.specs.Worked.{Worked, costs}
-use Rattle.claims.specs.WrittenBooks.{bond}
-use Rattle.claims.specs.NettingFacts.{writtenFacts, toldFacts, nearIssue, farIssue, joinedIssue, ableFacts, comparedFacts, joinedFacts}
-use Rattle.claims.proofs.WorkedBooks.{given}
+use Rattle.worked.specs.Worked.{Worked, costs}
+use Rattle.worked.specs.WrittenBooks.{bond}
+use Rattle.worked.specs.NettingFacts.{writtenFacts, toldFacts, nearIssue, farIssue, joinedIssue, ableFacts, comparedFacts, joinedFacts}
+use Rattle.worked.proofs.WorkedBooks.{given}
 
 unfoldable pub netted : List Worked → List (List ℕ)
 unfolding given has placed nettedFrom sameTerms unlikeFirst differs overLimit comparedWith comparisonsFrom comparisonsOf firstFound foundInClass orNext issuesRefusal roomRefusal figureOf outputOf nettedBook nettingRefusal nettedAnswer nettedOf nettingOutput

@@ -6,7 +6,7 @@ use Rattle.book.specs.declared.Refusal.{Refusal}
 use Rattle.book.specs.Legs.{Leg}
 use Rattle.layout.specs.Files.{bookOf}
 use Rattle.market_risk.specs.Entries.{refusalEntries}
-use Rattle.claims.specs.Worked.{Worked}
+use Rattle.worked.specs.Worked.{Worked}
 
 -- ---- legs with an issue number
 abbrev pub issued : (class group kind days coupon issue long short : ℕ) → Leg

@@ -6,9 +6,9 @@ use Rattle.table.specs.Loaded.{standardBytes}
 use Rattle.layout.specs.Files.{bookOf}
 use Rattle.market_risk.specs.Entries.{tradeEntries}
 use Rattle.trade.specs.Trade.{leastTradeOf}
 use Rattle.claims.specs.Trade.{chargeAt}
-use Rattle.claims.specs.Worked.{Worked, government}
-use Rattle.claims.specs.Tables.{flat}
+use Rattle.worked.specs.Worked.{Worked, government}
+use Rattle.worked.specs.Tables.{flat}
 
 -- the answer for a table, a book, a currency, a band, a side and a limit: number, row, book, whether there is an amount, the amount
 abbrev pub trades : (table book : List ℕ) (group band side limit : ℕ) → List ℕ → Worked

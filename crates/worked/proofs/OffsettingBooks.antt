@@ -7,9 +7,9 @@ use Rattle.layout.specs.Room.{orNext, roomRefusal, figureOf, writtenOf, outputO
 use Rattle.swaps.specs.Fitting.{mostDaysApart, opposite, government, near, fits}
 use Rattle.swaps.specs.Offset.{someFits, withoutFit, offsetFrom}
 use Rattle.offsetting.specs.Offset.{offsetBy, offsetBook, offsettingRefusal, offsetOf, offsettingOutput}
-use Rattle.claims.specs.Worked.{Worked}
-use Rattle.claims.specs.OffsettingFacts.{fitFacts, offsetFacts, dearerFacts}
-use Rattle.claims.proofs.WorkedBooks.{given}
+use Rattle.worked.specs.Worked.{Worked}
+use Rattle.worked.specs.OffsettingFacts.{fitFacts, offsetFacts, dearerFacts}
+use Rattle.worked.proofs.WorkedBooks.{given}
 
 -- which rows fit and which are left; and with them the call
 unfoldable rows : List Worked → List Worked
