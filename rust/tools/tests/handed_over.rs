@@ -5,7 +5,7 @@ mod common;
 
 use books::csv::HEADER;
 use books::options::csv::HEADER as OPTIONS;
-use common::{fails, run, sample, temporary};
+use common::{fails, prints, run, sample, temporary};
 use std::fs;
 use std::process::{Command, Output};
 
@@ -54,6 +54,18 @@ fn no_more_is_read_than_can_be_taken() {
         let error = String::from_utf8(output.stderr).unwrap();
         assert_eq!(output.status.code(), Some(1), "{script}: {error}");
         assert!(error.contains(expected), "{script}: {error}");
+    }
+}
+
+/// Catches text that begins as no text does, is read as far as a packed book would go, and is then taken.
+#[test]
+fn text_is_packed_whole_whatever_it_begins_with() {
+    let rows = "fx,1,none,0,0,0,5,0\n".repeat(4_000);
+    for begin in ["\u{c}", "#\u{1}\n"] {
+        let text = file("begin.csv", format!("{begin}{HEADER}\n{rows}"));
+        let book = temporary("handed-over-begin.book");
+        prints(&["pack", &text, &book]);
+        assert_eq!(fs::read(&book).unwrap().len(), 64_008, "{begin:?}");
     }
 }
 

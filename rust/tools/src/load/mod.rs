@@ -184,22 +184,18 @@ impl Given {
     }
 }
 
-/// Reads a file of a sort, which is made into what a command takes; all that is wrong is told with its name.
-fn read_as(
-    path: &Path,
-    sort: &Sort,
-    made: fn(Vec<u8>, &Sort) -> Result<Given, Unread>,
-) -> Result<Given, Failure> {
+/// Reads a file of a sort in either form; all that is wrong is told with its name.
+fn read_either(path: &Path, sort: &Sort) -> Result<Given, Failure> {
     let most = |head: &[u8]| match is_text(head) {
         true => sort.most_text(),
         false => sort.most_bytes,
     };
-    made(read(path, most)?, sort).map_err(|why| unread(path, &why))
+    Given::of_file(read(path, most)?, sort).map_err(|why| unread(path, &why))
 }
 
 /// Reads a book in either form.
 pub fn read_book(path: &Path) -> Result<Given, Failure> {
-    read_as(path, &BOOK, Given::of_file)
+    read_either(path, &BOOK)
 }
 
 /// The same of a book whose figures are printed: what looks wrong with it is told beside them.
@@ -211,10 +207,11 @@ pub fn read_noted(path: &Path) -> Result<Given, Failure> {
 
 /// Reads an option table in either form.
 pub fn read_options(path: &Path) -> Result<Given, Failure> {
-    read_as(path, &OPTIONS, Given::of_file)
+    read_either(path, &OPTIONS)
 }
 
-/// Reads what must be text.
+/// Reads what must be text, as far as text may go however it begins: none is cut and then taken.
 pub fn read_text(path: &Path, sort: &Sort) -> Result<Given, Failure> {
-    read_as(path, sort, |file, sort| Given::of_text(&file, sort))
+    let file = read(path, |_| sort.most_text())?;
+    Given::of_text(&file, sort).map_err(|why| unread(path, &why))
 }
