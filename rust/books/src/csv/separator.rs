@@ -29,7 +29,7 @@ fn told(text: &str) -> Result<Option<(char, &str)>, LineError> {
 }
 
 /// The separator of a text, and its records. Where the first line does not tell it, it is the one under which
-/// most columns are found in the header.
+/// most columns are found in the header, which is the first record that is none of faults.
 pub fn separated<'a>(
     text: &'a str,
     found_in: impl Fn(&Record) -> usize,
@@ -37,9 +37,10 @@ pub fn separated<'a>(
     if let Some((separator, rest)) = told(text)? {
         return Ok((separator, Records::new(rest, 1, separator)));
     }
-    let found_under = |separator: &char| match Records::new(text, 1, *separator).next() {
-        Some(Ok(header)) => found_in(&header),
-        _ => 0,
+    let found_under = |separator: &char| {
+        let mut records = Records::new(text, 1, *separator);
+        let header = records.find_map(Result::ok);
+        header.map_or(0, |header| found_in(&header))
     };
     // Of equals the last is taken, which is to be the comma.
     let best = SEPARATORS.into_iter().rev().max_by_key(found_under);
@@ -66,6 +67,8 @@ mod tests {
             let header = format!("# x,y;z\n\n{sign}{sign}\n\"a\"{sign} b\n,,,,;;;;\n");
             assert_eq!(of(&header), Ok(separator));
         }
+        // A row above it that begins as a comment does hides none.
+        assert_eq!(of("#x;1;2;3;4\na;b"), Ok(';'));
         assert_eq!(
             [of(""), of("xyz"), of("\"a;b")],
             [Ok(','), Ok(','), Ok(',')]

@@ -51,6 +51,7 @@ fn without_decimals(text: &str) -> Option<&str> {
 /// What to write where thousands are parted, or decimals are zeros.
 fn joined(unit: Unit, text: &str, number: &str, decimals: bool) -> String {
     match unit {
+        Unit::Nothing => unit.advice(text),
         _ if !decimals => format!("write {number}"),
         Unit::BasisPoints | Unit::TenThousandths | Unit::Hundredths => {
             format!(
@@ -159,7 +160,8 @@ fn fault<T: TryFrom<u64>>(column: &Column, text: &str) -> Result<T, String> {
         let number = text.trim_start_matches('0');
         let number = if number.is_empty() { "0" } else { number };
         let hint = "is there a thousands separator before it? write";
-        return Err(format!(" is '{text}': {hint} {number} if that is meant"));
+        let text = shown(text);
+        return Err(format!(" is {text}: {hint} {number} if that is meant"));
     }
     let number = text.parse::<u64>().ok();
     let fits = number.and_then(|number| T::try_from(number).ok());

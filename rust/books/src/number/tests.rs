@@ -78,6 +78,11 @@ fn zero_is_written_once() {
     let why = "is there a thousands separator before it? write 80 if that is meant";
     assert_eq!(told("080"), format!("long is '080': {why}"));
     assert_eq!(field(&LONG, "0"), Ok(0u32));
+    let many = told(&"0".repeat(1_000));
+    assert!(
+        many.starts_with(&format!("long is '{}...': ", "0".repeat(60))),
+        "{many}"
+    );
 }
 
 /// Catches 1,000 that is taken for 1 or for 1000, by whatever sign its thousands are parted, and advice that
@@ -110,6 +115,14 @@ fn thousands_separators_are_told_with_what_to_write() {
         told_of(&COUPON, "8,000"),
         format!("coupon is '8,000': {not} {coupon}")
     );
+    // Where only 0 is accepted no other number is told.
+    for text in ["1,000", "1 000", "30.0"] {
+        let told = told_of(&NO_DAYS, text);
+        assert!(
+            told.ends_with("; write it as 0, or leave it empty"),
+            "{told}"
+        );
+    }
 }
 
 /// Catches a number of which a part is taken, and a reason that is another's.

@@ -1,6 +1,6 @@
 //! What the numbers of a column count, and how a message tells what to write there.
 
-use super::digits;
+use super::{digits, thousands};
 
 /// What the numbers of a column count.
 #[derive(Clone, Copy, Debug, PartialEq, Eq)]
@@ -95,9 +95,11 @@ impl Unit {
             _ => return None,
         };
         let count = times(number, scale)?;
-        // A volatility of under 3 without its sign may as well be a share.
+        // A volatility of under 3 without its sign may as well be a share, and 1,000 days are no one day.
         let share = self == Unit::Hundredths && behind.is_empty() && count < 300;
-        (count <= self.most() && !share).then(|| format!("{number}{shown} is {count}"))
+        let parts = self == Unit::Days && thousands(number).is_some();
+        let certain = count <= self.most() && !share && !parts;
+        certain.then(|| format!("{number}{shown} is {count}"))
     }
 
     /// A number in the unit by what was written, or another.
@@ -121,7 +123,7 @@ mod tests {
     use super::*;
 
     /// Texts in a column of a unit, and how the advice ends.
-    const ADVICE: [(Unit, &str, &str); 25] = [
+    const ADVICE: [(Unit, &str, &str); 27] = [
         (Unit::BasisPoints, "8%", "in basis points: 8% is 800"),
         (Unit::BasisPoints, "8.5 %", "in basis points: 8.5% is 850"),
         (Unit::BasisPoints, "8,25", "in basis points: 8,25% is 825"),
@@ -165,6 +167,12 @@ mod tests {
         ),
         (Unit::BasisPoints, "101%", "in basis points: 8% is 800"),
         (Unit::Days, "101y", "in days: a month is 30, a year 360"),
+        (Unit::Days, "1,000d", "in days: a month is 30, a year 360"),
+        (
+            Unit::Days,
+            "2.000 days",
+            "in days: a month is 30, a year 360",
+        ),
         (Unit::Days, "5y", "in days: 5y is 1800"),
         (Unit::Days, "2.5 Years", "in days: 2.5y is 900"),
         (Unit::Days, "18 months", "in days: 18m is 540"),
