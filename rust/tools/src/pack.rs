@@ -45,8 +45,8 @@ pub const COMMAND: Command = Command {
         Part::Text(
             "A column that is missing, stands twice or has another name is refused, and so are \
              numbers with thousands separators, decimals, signs, units or formulas, and a row \
-             that begins with # and no blank behind it, as errors of spreadsheets do. Every bad line is told with all its faults, \
-             up to 20 lines.",
+             that begins with # and no blank behind it, as errors of spreadsheets do. Every bad \
+             line is told with all its faults, up to 20 lines.",
         ),
         Part::Text(
             "Coupons of 1 to 20 look like per cents, final maturities of 1 to 30 like years, and \

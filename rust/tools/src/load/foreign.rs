@@ -8,7 +8,7 @@ use books::csv::text_byte;
 type Beginning = (&'static [u8], &'static str);
 
 /// Files of other programs. Taken for a count, the first two bytes of each are too many rows.
-const BYTES: [Beginning; 6] = [
+const BYTES: [Beginning; 5] = [
     (
         b"PK\x03\x04",
         "a spreadsheet file (.xlsx, .ods) or another zip archive: save the sheet as CSV UTF-8",
@@ -19,12 +19,12 @@ const BYTES: [Beginning; 6] = [
     ),
     (b"\x7fELF", "a program: name the file of positions"),
     (b"\x1f\x8b", "a compressed file: unpack it with gunzip"),
-    (b"BZh", "a compressed file: unpack it with bunzip2"),
     (b"\xfd7zXZ", "a compressed file: unpack it with unxz"),
 ];
 
-/// Texts of other forms. No header begins so.
-const TEXTS: [Beginning; 5] = [
+/// Texts of other forms, and a compressed file whose first ten bytes are letters and digits. No header begins so.
+const TEXTS: [Beginning; 6] = [
+    (b"BZh", "a compressed file: unpack it with bunzip2"),
     (
         b"%PDF-",
         "a PDF document: export the positions as CSV UTF-8",
@@ -80,6 +80,8 @@ mod tests {
             (b"\xd0\xcf\x11\xe0\xa1\xb1\x1a\xe1\0\0", "(.xls)"),
             (b"\x7fELF\x02\x01\x01\0\0\0", "a program"),
             (b"\x1f\x8b\x08\0\0\0\0\0\0\0", "gunzip"),
+            (b"BZh91AY&SY\x9a\x01", "bunzip2"),
+            (b"\xfd7zXZ\0\0\x04\xe6", "unxz"),
             (b"%PDF-1.7\n%", "PDF"),
             (b"{\\rtf1\\ansi", "RTF"),
             (b"\n {\"rows\": []}", "JSON"),

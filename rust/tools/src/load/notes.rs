@@ -18,7 +18,7 @@ fn doubt(book: &Book) -> Option<&'static str> {
     }
     let short = some && fixed.all(|row| row.days <= WEIGHTLESS);
     short.then_some(
-        "no interest row has over 30 days, and those weigh nothing; \
+        "no fixed-rate row has over 30 days, and those weigh nothing under document 01's table; \
          days are not years: a year is 360",
     )
 }
@@ -63,7 +63,8 @@ mod tests {
         };
         assert!(told(&[]).unwrap().starts_with("there are no rows"));
         assert!(told(&[row(1, 5), row(3, 30)]).unwrap().contains("years"));
-        assert!(told(&[row(4, 90), row(3, 30)]).unwrap().contains("years"));
+        let beside = told(&[row(4, 90), row(3, 30)]).unwrap();
+        assert!(beside.starts_with("no fixed-rate row has over 30 days"));
         assert_eq!(told(&[row(1, 5), row(3, 31)]), None);
         assert_eq!(told(&[row(4, 5)]), None);
         let mut book = Book::default();
