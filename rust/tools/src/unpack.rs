@@ -15,7 +15,8 @@ pub const COMMAND: Command = Command {
          library refuses are written as they are; a kind that the class does not know is \
          its number. A row of kind floating has the days to its next fixing in the column \
          days, and those to final maturity in the column coupon. A file whose length does \
-         not agree with its counts has no rows and is an error.",
+         not agree with its counts has no rows and is an error, and so is a packed book of more \
+         than 4,000 rows or a table of more than 1,000 options.",
     )],
     options: &[Choice::flag(
         "--options",

@@ -133,6 +133,17 @@ fn faults_of_text_are_printed_as_json() {
             json.contains(&format!("\"file\": \"{table}\",\n      \"line\": 2")),
             "{json}"
         );
+        // Neither text nor CSV has a place for them.
         assert!(fails(1, &[command, &book]).contains(days));
+        assert!(fails(1, &[command, &book, "--csv"]).contains(days));
     }
+}
+
+/// Catches bad lines past those that are told, of which a program learns nothing.
+#[test]
+fn lines_that_are_not_told_are_counted_in_json() {
+    let book = file("many.csv", format!("{HEADER}\n{}", "fx\n".repeat(25)));
+    let json = String::from_utf8(run(&["report", &book, "--json"]).stdout).unwrap();
+    assert_eq!(json.matches("\"what\"").count(), 20);
+    assert!(json.ends_with("\n  ],\n  \"more_lines\": 5\n}\n"), "{json}");
 }

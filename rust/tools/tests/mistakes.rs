@@ -95,50 +95,58 @@ fn advice_is_in_the_unit_of_the_column() {
     assert!(line.ends_with("in basis points: 0.2% is 20\n"), "{line}");
 }
 
-/// Catches a row that a spreadsheet's error makes a comment, and a book without rows or with years for days
-/// that costs nothing without a word.
+/// Catches a row that a spreadsheet's error makes a comment.
 #[test]
-fn rows_that_cost_nothing_are_told() {
+fn rows_that_begin_with_an_error_are_told() {
     for error in ["#REF!", "#N/A Invalid Security", "#n/a"] {
         let why = format!("a row begins with '{error}'; a comment has a blank behind its #");
         let line = format!("{error},7,government,7200,200,1,1000000,0");
         assert_eq!(told(&line), [why]);
     }
-    let path = file("no-options.csv", format!("{OPTIONS}\n# none\n"));
-    let note = String::from_utf8(run(&["options", &path]).stderr).unwrap();
-    assert!(note.ends_with("there are no options, and every charge is zero\n"));
+}
+
+/// What is told on standard error beside figures.
+fn noted(words: &[&str]) -> String {
+    let output = run(words);
+    assert!(output.status.success(), "{words:?}");
+    String::from_utf8(output.stderr).unwrap()
+}
+
+/// Catches CSV text under another table without a word of it, and a word of document 01's own.
+#[test]
+fn figures_under_another_table_are_noted() {
     let table = file("zeros.table", [0; 36]);
+    let own = sample("../tables/amendment-1996");
+    let (keyed, own) = (sample("keyed"), own.trim_end_matches(".csv"));
     for command in ["report", "ladder"] {
-        let output = run(&[command, &sample("keyed"), "--csv", "--table", &table]);
-        let note = String::from_utf8(output.stderr).unwrap();
-        assert!(
-            note.ends_with("under this table, not document 01's\n"),
-            "{note}"
-        );
-        let output = run(&[command, &sample("keyed"), "--csv"]);
-        assert!(output.stderr.is_empty());
+        let note = noted(&[command, &keyed, "--csv", "--table", &table]);
+        let told = format!("note: {table}: figures are under this table, not document 01's\n");
+        assert!(note.ends_with(&told), "{note}");
+        assert_eq!(noted(&[command, &keyed, "--csv"]), "");
+        assert_eq!(noted(&[command, &keyed, "--csv", "--table", own]), "");
+        // Text has its own lines of the table.
+        assert_eq!(noted(&[command, &keyed, "--table", &table]), "");
     }
-    for (name, rows, words) in [
-        ("none", "", "there are no rows, and every charge is zero"),
-        (
-            "years",
-            "interest,7,government,20,200,1,5,0\n",
-            "a year is 360",
-        ),
-    ] {
-        let path = file(&format!("{name}.csv"), format!("{HEADER}\n{rows}"));
-        for command in ["report", "ladder", "html"] {
-            let words_of = [command, &path, "-o", "-"];
-            let output = run(&words_of[..if command == "html" { 4 } else { 2 }]);
-            assert!(output.status.success());
-            let note = String::from_utf8(output.stderr).unwrap();
-            assert!(
-                note.starts_with(&format!("market-risk: note: {path}: ")),
-                "{note}"
-            );
-            assert!(note.contains(words), "{note}");
+}
+
+/// Catches a book without rows or with years for days that costs nothing without a word.
+#[test]
+fn books_that_cost_nothing_are_noted() {
+    let path = file("no-options.csv", format!("{OPTIONS}\n# none\n"));
+    let note = noted(&["options", &path]);
+    assert!(note.ends_with("there are no options, and every charge is zero\n"));
+    let none = file("none.csv", HEADER);
+    let years = "interest,7,government,20,200,1,5,0\n";
+    let years = file("years.csv", format!("{HEADER}\n{years}"));
+    let rows = "there are no rows, and every charge is zero";
+    for (path, words) in [(&none, rows), (&years, "a year is 360")] {
+        for command in [&["report"][..], &["ladder"], &["html", "-o", "-"]] {
+            let note = noted(&[command, &[path]].concat());
+            let begin = format!("market-risk: note: {path}: ");
+            assert!(note.starts_with(&begin) && note.contains(words), "{note}");
         }
     }
+    assert!(noted(&["small-bank", &none]).contains(rows));
 }
 
 /// Catches a limit that is told without the number that broke it.
@@ -160,11 +168,12 @@ fn limits_are_told_with_the_number_that_broke_them() {
     ] {
         assert_eq!(told(line), [expected]);
     }
-    let half = format!("{HEADER}\n{}", "fx,1,none,0,0,0,5,0\n".repeat(2_500));
-    let (a, b) = (file("half.csv", half), sample("mixed"));
-    let error = fails(1, &["join", &a, &a, "x"]);
+    let rows = |count| format!("{HEADER}\n{}", "fx,1,none,0,0,0,5,0\n".repeat(count));
+    let [a, most] = [2_500, 1_501].map(|count| file("rows.csv", rows(count)));
+    let b = sample("mixed");
+    let error = fails(1, &["join", &a, &most, "x"]);
     let both =
-        format!("{a} has 2,500 rows and {a} 2,500, together 5,000, and 4,000 are the most\n");
+        format!("{a} has 2,500 rows and {most} 1,501, together 4,001, and 4,000 are the most\n");
     assert!(error.ends_with(&both), "{error}");
     prints(&["join", &a, &b, "-", "--csv"]);
 }

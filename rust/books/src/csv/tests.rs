@@ -45,6 +45,26 @@ fn a_damaged_row_comes_back_as_it_was() {
     }
 }
 
+/// Catches a number that looks like one of another unit and is not written in four digits, or is in a column
+/// that does not take them.
+#[test]
+fn small_numbers_come_back_as_they_were() {
+    let mut book = Book::default();
+    for class in 0..4 {
+        for kind in 0..6 {
+            let rows = (0..=300).map(|count| Row {
+                kind,
+                days: count,
+                coupon: count,
+                issue: count,
+                ..Row::default()
+            });
+            book.classes[class].extend(rows);
+        }
+    }
+    assert_eq!(parse(&write(&book)).unwrap().book, book);
+}
+
 /// Catches a note whose two maturities are exchanged, or that comes back as another kind.
 #[test]
 fn a_floating_rate_note_has_its_final_maturity_in_the_column_of_the_coupon() {

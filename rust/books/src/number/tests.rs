@@ -27,7 +27,8 @@ fn digits_alone_are_taken() {
 /// Catches an empty field that is taken for 0 where it bears on a charge: its maturity would cost nothing.
 #[test]
 fn empty_fields_are_zero_only_where_nothing_else_is_accepted() {
-    for column in [NO_DAYS, NO_COUPON, ISSUE] {
+    // Where the class is not known that is told, and no more.
+    for column in [NO_DAYS, NO_COUPON, ISSUE, ANY_DAYS, ANY_COUPON] {
         assert_eq!(field(&column, ""), Ok(0u16));
     }
     let thousands = "write it in whole thousands of the reporting currency: a million is 1000";
@@ -50,6 +51,10 @@ fn empty_fields_are_zero_only_where_nothing_else_is_accepted() {
         (DELTA, "write it in ten-thousandths: 0.5 is 5000"),
         (GAMMA, "write it in ten-thousandths: 0.5 is 5000"),
         (VOLATILITY, "write it in hundredths of a point: 20% is 2000"),
+        (
+            VEGA,
+            "write it in whole thousands of the reporting currency for a point of volatility",
+        ),
     ] {
         let name = [column.name, column.holds].concat();
         assert_eq!(told_of(&column, ""), format!("{name} is empty; {why}"));
@@ -66,6 +71,13 @@ fn numbers_too_large_are_told_with_what_they_may_be() {
     assert_eq!(group, "group is '256', and may be 0 to 31");
     let issue = field::<u16>(&ISSUE, "65536").unwrap_err().what;
     assert_eq!(issue, "issue is '65536', and may be 0 to 65,535");
+    for (column, most) in [(COUPON, "10,000"), (FINAL, "36,000"), (DELIVERY, "36,000")] {
+        let told = field::<u16>(&column, "65536").unwrap_err().what;
+        assert!(
+            told.ends_with(&format!(", and may be 0 to {most}")),
+            "{told}"
+        );
+    }
 }
 
 /// Catches a row without its last field that 1,000 fills up: long 1 and short 000.
@@ -116,12 +128,12 @@ fn thousands_separators_are_told_with_what_to_write() {
         format!("coupon is '8,000': {not} {coupon}")
     );
     // Where only 0 is accepted no other number is told.
-    for text in ["1,000", "1 000", "30.0"] {
-        let told = told_of(&NO_DAYS, text);
-        assert!(
-            told.ends_with("; write it as 0, or leave it empty"),
-            "{told}"
-        );
+    for text in ["1,000", "1 000", "30.0", "8%"] {
+        let told = [NO_DAYS, NO_COUPON].map(|column| told_of(&column, text));
+        let zero = told
+            .each_ref()
+            .map(|told| told.ends_with("; write it as 0, or leave it empty"));
+        assert_eq!(zero, [true; 2], "{told:?}");
     }
 }
 
@@ -179,7 +191,9 @@ fn numbers_below_zero_are_told_with_where_they_belong() {
         assert_eq!(told(text), format!("long is '{text}': {why}"));
     }
     assert!(told_of(&SHORT, "-5").ends_with("a short below zero is a long"));
-    assert!(told_of(&VEGA, "-5").contains("; a sold option's is: "));
+    for column in [GAMMA, VEGA] {
+        assert!(told_of(&column, "-5").contains("; a sold option's is: "));
+    }
     assert!(told_of(&AMOUNT, "-5").ends_with("the column right tells what is sold"));
     let delta = "write it without its sign, in ten-thousandths: 0.5 is 5000";
     assert_eq!(
@@ -242,6 +256,7 @@ fn numbers_of_another_unit_are_taken_in_four_digits_alone() {
     assert!(told.ends_with(&format!("is 8, which is {why}")), "{told}");
     for (column, most) in [
         (COUPON, 20),
+        (FINAL, 30),
         (DELTA, 100),
         (VOLATILITY, 100),
         (GAMMA, 0),

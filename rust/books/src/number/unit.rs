@@ -123,7 +123,7 @@ mod tests {
     use super::*;
 
     /// Texts in a column of a unit, and how the advice ends.
-    const ADVICE: [(Unit, &str, &str); 27] = [
+    const ADVICE: [(Unit, &str, &str); 29] = [
         (Unit::BasisPoints, "8%", "in basis points: 8% is 800"),
         (Unit::BasisPoints, "8.5 %", "in basis points: 8.5% is 850"),
         (Unit::BasisPoints, "8,25", "in basis points: 8,25% is 825"),
@@ -160,6 +160,12 @@ mod tests {
             "1.05",
             "in hundredths of a point: 20% is 2000",
         ),
+        (
+            Unit::Hundredths,
+            "2.99",
+            "in hundredths of a point: 20% is 2000",
+        ),
+        (Unit::Hundredths, "3", "in hundredths of a point: 3% is 300"),
         (
             Unit::Hundredths,
             "1.05%",

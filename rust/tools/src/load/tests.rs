@@ -123,6 +123,8 @@ fn text_has_a_most() {
     assert!(read(&OPTIONS, text(), 1_000_000).is_ok());
     assert!(read(&OPTIONS, text(), 1_000_001).is_err());
     assert_eq!([BOOK.most_bytes, OPTIONS.most_bytes], [64_008, 18_002]);
+    assert_eq!(BOOK.length(&[0; 64_008]), "64,008");
+    assert_eq!(BOOK.length(&[0; 64_009]), "more than 64,008");
 }
 
 /// Catches a text that is cut or damaged anywhere and then ends in a panic, or is a book that no text is.

@@ -87,6 +87,11 @@ fn a_row_that_begins_with_an_error_is_no_comment() {
             assert_eq!(cut(',', &text), ["1: a|b", &told, "3: c|d"]);
         }
     }
+    // An error and one field more are enough, and of other words the fields that every row has.
+    for (line, first) in [("#REF!,7", "#REF!"), ("#n/a,7,none,,,,5,0", "#n/a")] {
+        let told = format!("line 1: a row begins with '{first}'; {why}");
+        assert_eq!(cut(',', line), [told]);
+    }
     for error in ["#N/A Invalid Security", "#n/a", "#Wert!", "#interest"] {
         let text = format!("a,b\n{error},7,other,9,,5,0\nc,d");
         let told = format!("line 2: a row begins with '{error}'; {why}");

@@ -68,6 +68,19 @@ fn any_table_comes_back_as_it_was() {
         assert_eq!(encode(&parsed.options).unwrap(), bytes);
         assert_eq!(write(&parsed.options), text);
     }
+    // Small ones are written in four digits where they look like those of another unit.
+    let small = |count| OptionRow {
+        class: 4,
+        amount: u32::from(count),
+        delta: count,
+        gamma: count,
+        vega: count,
+        volatility: count,
+        days: count,
+        ..OptionRow::default()
+    };
+    let small: Vec<OptionRow> = (0..=300).map(small).collect();
+    assert_eq!(parse(&write(&small)).unwrap().options, small);
     for class in 0..=255 {
         for low in 0..4 {
             let option = OptionRow {
