@@ -49,15 +49,13 @@ fn without_decimals(text: &str) -> Option<&str> {
 }
 
 /// What to write where thousands are parted, or decimals are zeros.
-fn joined(unit: Unit, text: &str, number: &str, decimals: bool) -> String {
-    match unit {
-        Unit::Nothing => unit.advice(text),
+fn joined(column: &Column, text: &str, number: &str, decimals: bool) -> String {
+    match column.unit {
+        Unit::Nothing => advice(column, text),
         _ if !decimals => format!("write {number}"),
         Unit::BasisPoints | Unit::TenThousandths | Unit::Hundredths => {
-            format!(
-                "write {number} if that is meant, else {}",
-                unit.advice(text)
-            )
+            let advice = advice(column, text);
+            format!("write {number} if that is meant, else {advice}")
         }
         _ => format!("write {number} if that is meant"),
     }
@@ -65,17 +63,16 @@ fn joined(unit: Unit, text: &str, number: &str, decimals: bool) -> String {
 
 /// Why a field that is not digits alone is no whole number, and what to write.
 fn why(column: &Column, text: &str) -> String {
-    let unit = column.unit;
     let point = |sign: char| sign == '.' || sign == ',';
     let figure = |sign: char| sign.is_ascii_digit() || PARTS.contains(&sign);
     let has_digits = text.contains(|sign: char| sign.is_ascii_digit());
     if let Some((number, _, decimals)) = thousands(text) {
-        let write = joined(unit, text, &number, decimals);
+        let write = joined(column, text, &number, decimals);
         return format!(": thousands separators are not taken; {write}");
     }
     let above = text.strip_prefix('+').filter(|number| digits(number));
     if let Some(number) = without_decimals(text) {
-        let write = joined(unit, text, number, true);
+        let write = joined(column, text, number, true);
         return format!(": decimals are not taken; {write}");
     }
     let advice = match above {
@@ -99,7 +96,7 @@ fn why(column: &Column, text: &str) -> String {
 fn advice(column: &Column, text: &str) -> String {
     match (column.unit, column.range) {
         (Unit::Plain, range) if !range.is_empty() => format!("write a whole number of {range}"),
-        (unit, _) => unit.advice(text),
+        (unit, _) => unit.advice(text, column.doubtful),
     }
 }
 
@@ -141,17 +138,22 @@ fn doubtful(column: &Column, text: &str, number: u64) -> Option<String> {
         _ => format!("{}.{:02}%", number / 100, number % 100),
     };
     doubted.then(|| {
-        let advice = column.unit.advice(text);
+        let advice = advice(column, text);
         format!(" is {text}, which is {value}: {advice}; write {number:04} if {value} is meant")
     })
 }
 
-/// A number as it is written in a column, so that it is taken back.
-pub(crate) fn written(column: &Column, number: u16) -> String {
-    match (1..=column.doubtful).contains(&number.into()) {
+/// A number in four digits up to the largest that is doubtful, so that it is taken.
+fn taken(number: u64, doubtful: u64) -> String {
+    match (1..=doubtful).contains(&number) {
         true => format!("{number:04}"),
         false => number.to_string(),
     }
+}
+
+/// A number as it is written in a column, so that it is taken back.
+pub(crate) fn written(column: &Column, number: u16) -> String {
+    taken(number.into(), column.doubtful)
 }
 
 /// What is wrong with digits that are no number of a column.

@@ -274,3 +274,20 @@ fn numbers_of_another_unit_are_taken_in_four_digits_alone() {
         }
     }
 }
+
+/// Catches advice to write a number that is refused in its turn.
+#[test]
+fn what_is_told_to_write_is_taken() {
+    for (column, text, number) in [
+        (COUPON, "0.08%", "0008"),
+        (COUPON, "0.21%", "21"),
+        (DELTA, "0.005", "0050"),
+        (VOLATILITY, "0.2%", "0020"),
+        (FINAL, "8d", "0008"),
+        (DAYS, "8d", "8"),
+    ] {
+        let told = told_of(&column, text);
+        assert!(told.ends_with(&format!(" is {number}")), "{told}");
+        assert!(field::<u16>(&column, number).is_ok());
+    }
+}

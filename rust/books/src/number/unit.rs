@@ -1,6 +1,6 @@
 //! What the numbers of a column count, and how a message tells what to write there.
 
-use super::{digits, thousands};
+use super::{digits, taken, thousands};
 
 /// What the numbers of a column count.
 #[derive(Clone, Copy, Debug, PartialEq, Eq)]
@@ -81,8 +81,9 @@ impl Unit {
         }
     }
 
-    /// What a text comes to in the unit, where it can be nothing else and is whole: 8.5% is 850.
-    fn meant(self, text: &str) -> Option<String> {
+    /// What a text comes to in the unit, where it can be nothing else and is whole: 8.5% is 850. It is written so
+    /// that it is taken, also where it is doubtful: 0.08% is 0008.
+    fn meant(self, text: &str, doubtful: u64) -> Option<String> {
         let (number, behind) = parted(text);
         let (scale, shown) = match (self, &behind[..]) {
             (Unit::BasisPoints | Unit::Hundredths, "" | "%") => (100, "%"),
@@ -95,23 +96,29 @@ impl Unit {
             _ => return None,
         };
         let count = times(number, scale)?;
-        // A volatility of under 3 without its sign may as well be a share, and 1,000 days are no one day.
-        let share = self == Unit::Hundredths && behind.is_empty() && count < 300;
+        // Without its sign a volatility of under 3 may as well be a share, and a coupon of 0.08 be 8%; 1,000
+        // days are no one day.
+        let shares = match self {
+            Unit::Hundredths => 300,
+            Unit::BasisPoints => 20,
+            _ => 0,
+        };
+        let share = behind.is_empty() && count < shares;
         let parts = self == Unit::Days && thousands(number).is_some();
         let certain = count <= self.most() && !share && !parts;
-        certain.then(|| format!("{number}{shown} is {count}"))
+        certain.then(|| format!("{number}{shown} is {}", taken(count, doubtful)))
     }
 
     /// A number in the unit by what was written, or another.
-    fn shown(self, text: &str) -> Option<String> {
+    fn shown(self, text: &str, doubtful: u64) -> Option<String> {
         let example = || self.example().map(String::from);
-        self.meant(text).or_else(example)
+        self.meant(text, doubtful).or_else(example)
     }
 
-    /// What to write in the place of a text.
-    pub(super) fn advice(self, text: &str) -> String {
+    /// What to write in the place of a text, where numbers up to this one are doubtful.
+    pub(super) fn advice(self, text: &str, doubtful: u64) -> String {
         let words = self.words();
-        match self.shown(text) {
+        match self.shown(text, doubtful) {
             Some(shown) => format!("write it {words}: {shown}"),
             None => format!("write it {words}"),
         }
@@ -123,11 +130,14 @@ mod tests {
     use super::*;
 
     /// Texts in a column of a unit, and how the advice ends.
-    const ADVICE: [(Unit, &str, &str); 29] = [
+    const ADVICE: [(Unit, &str, &str); 32] = [
         (Unit::BasisPoints, "8%", "in basis points: 8% is 800"),
         (Unit::BasisPoints, "8.5 %", "in basis points: 8.5% is 850"),
         (Unit::BasisPoints, "8,25", "in basis points: 8,25% is 825"),
         (Unit::BasisPoints, "8.001", "in basis points: 8% is 800"),
+        (Unit::BasisPoints, "0.08", "in basis points: 8% is 800"),
+        (Unit::BasisPoints, "0.2", "in basis points: 0.2% is 20"),
+        (Unit::BasisPoints, "0.08%", "in basis points: 0.08% is 8"),
         (Unit::BasisPoints, "8/100", "in basis points: 8% is 800"),
         (
             Unit::TenThousandths,
@@ -199,15 +209,19 @@ mod tests {
     #[test]
     fn advice_is_in_the_unit_of_the_column() {
         for (unit, text, expected) in ADVICE {
-            assert_eq!(unit.advice(text), format!("write it {expected}"), "{text}");
+            assert_eq!(
+                unit.advice(text, 0),
+                format!("write it {expected}"),
+                "{text}"
+            );
         }
         let thousands = "write it in whole thousands of the reporting currency";
         assert_eq!(
-            Unit::Thousands.advice("5m"),
+            Unit::Thousands.advice("5m", 0),
             format!("{thousands}: a million is 1000")
         );
         let point = format!("{thousands} for a point of volatility");
-        assert_eq!(Unit::ThousandsAPoint.advice("8.4"), point);
+        assert_eq!(Unit::ThousandsAPoint.advice("8.4", 0), point);
     }
 
     /// Catches a product that is cut, or that wraps.
