@@ -30,7 +30,7 @@ pub struct Sort {
     pub most_bytes: usize,
     most_rows: usize,
     pack: fn(&str) -> Result<Given, Faults>,
-    /// Whether bytes are of it, packed and accepted.
+    /// Whether bytes are of it, packed: an accepted book, or a table whose length agrees with its count.
     packed: fn(&[u8]) -> bool,
 }
 
