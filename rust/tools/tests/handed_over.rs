@@ -101,6 +101,8 @@ fn files_of_other_programs_are_told_by_what_they_are() {
     for words_of in [&["table", &xlsx][..], &["report", &keyed, "--table", &xlsx]] {
         assert!(fails(1, words_of).contains("a spreadsheet file (.xlsx, .ods)"));
     }
+    let marked = file("marked.table", [&b"\xff\xfe"[..], &utf_16].concat());
+    assert!(fails(1, &["table", &marked]).contains("UTF-16 text: save it as UTF-8"));
     for command in ["report", "options"] {
         let error = fails(1, &[command, env!("CARGO_BIN_EXE_market-risk")]);
         assert!(

@@ -19,7 +19,16 @@ fn counted(name: &str) -> Column<'_> {
 /// The number that an option is given, or what is told of another word.
 pub fn whole(name: &str, text: &str) -> Result<u64, String> {
     let together = Some(text.replace('_', "")).filter(|number| digits(number));
-    let number = together.as_deref().unwrap_or(text);
+    // 007 is no rest of a number with a thousands separator: no word stands before it.
+    let number = match together.as_deref() {
+        Some(three) if three.len() == 3 => three.trim_start_matches('0'),
+        other => other.unwrap_or(text),
+    };
+    let number = if number.is_empty() && !text.is_empty() {
+        "0"
+    } else {
+        number
+    };
     field(&counted(name), number).map_err(|wrong| wrong.what)
 }
 
@@ -30,7 +39,13 @@ mod tests {
     /// Catches a word that is taken though it is not digits, and a number that is not.
     #[test]
     fn digits_are_taken() {
-        for (text, number) in [("0", 0), ("0007", 7), ("1_000", 1_000)] {
+        for (text, number) in [
+            ("0", 0),
+            ("000", 0),
+            ("007", 7),
+            ("0007", 7),
+            ("1_000", 1_000),
+        ] {
             assert_eq!(whole("--rows", text), Ok(number), "{text}");
         }
         assert_eq!(whole("--rows", &u64::MAX.to_string()), Ok(u64::MAX));

@@ -6,6 +6,7 @@ use crate::files::{once, read};
 use crate::forms;
 use crate::load::{foreign, note, unread, Unread};
 use crate::name::name;
+use books::csv::utf_16;
 use books::tables::text::{parse, write};
 use books::tables::{self, TABLE_BYTES};
 use market_risk::Table;
@@ -48,7 +49,11 @@ fn table_of(file: &[u8]) -> Result<(Table, Form), Unread> {
 
 /// What is told of bytes that are no table: what they are where that is known, else their refusal.
 fn of_bytes(file: &[u8], refused: String) -> String {
-    foreign(file).map_or(refused, String::from)
+    match foreign(file) {
+        Some(what) => what.into(),
+        None if utf_16(file) => "UTF-16 text: save it as UTF-8".into(),
+        None => refused,
+    }
 }
 
 /// Reads a table in either form.
