@@ -11,6 +11,7 @@ use borrow.Author.Tests.{eqb-true, eq-eqb}
 use Rattle.sums.specs.Sums.{sumOf}
 use Rattle.sums.proofs.Every.{every-all}
 use Rattle.book.specs.declared.Row.{Row}
+use Rattle.book.specs.declared.Refusal.{Refusal}
 use Rattle.book.specs.Counts.{countIn, rowCount}
 use Rattle.book.specs.Legs.{legsOf, ofClass}
 use Rattle.book.specs.Accepted.{Accepted}
@@ -23,6 +24,7 @@ use Rattle.issues.specs.Comparing.{comparisonsFrom, comparisons}
 use Rattle.issues.proofs.Comparing.{comparisons-from, comparisons-reached}
 use Rattle.book.proofs.ClassRows.{class-size}
 use Rattle.netting.specs.Netted.{issuesRefusal, comparisonsOf, nettingRefusal, nettedAnswer, nettedOf}
+use Rattle.offsetting.specs.NetOffset.{netOffsetRefusal, netOffsetOf}
 use Rattle.claims.specs.Netting.{ComparingHolds, ReachingHolds}
 use Rattle.claims.proofs.Writing.{neither-refused}
 
@@ -83,14 +85,24 @@ netted-accepted : (s : List ℕ) (room : ℕ) → nettingRefusal s room .number 
 unfolding nettingRefusal issuesRefusal
 netted-accepted s room e = accepted s (neither-refused _ _ (neither-refused _ _ e .0) .0)
 
-pub comparing : ComparingHolds
-unfolding nettedOf nettedAnswer figureOf
-comparing s room = go (eqb (nettingRefusal s room .number) 0) refl
+both-accepted : (s : List ℕ) (room : ℕ) → netOffsetRefusal s room .number ≡ 0 → Accepted s
+unfolding netOffsetRefusal issuesRefusal
+both-accepted s room e = accepted s (neither-refused _ _ (neither-refused _ _ e .0) .0)
+
+-- the comparisons of a call that takes accepted books alone
+bounded : (s : List ℕ) (refusal : Refusal) → (refusal .number ≡ 0 → Accepted s)
+    → figureOf refusal (comparisonsOf s) ≤ length (legsOf s) * (length (legsOf s) - 1) / 2
+unfolding figureOf
+bounded s refusal taken = go (eqb (refusal .number) 0) refl
   where
-    go : (passes : Bool) → eqb (nettingRefusal s room .number) 0 ≡ passes → cond passes (comparisonsOf s) 0 ≤ length (legsOf s) * (length (legsOf s) - 1) / 2
-    go true e =
-        halves (length (legsOf s)) (comparisonsOf s) (all-classes s (netted-accepted s room (eqb-true (nettingRefusal s room .number) 0 e)))
+    go : (passes : Bool) → eqb (refusal .number) 0 ≡ passes → cond passes (comparisonsOf s) 0 ≤ length (legsOf s) * (length (legsOf s) - 1) / 2
+    go true e = halves (length (legsOf s)) (comparisonsOf s) (all-classes s (taken (eqb-true (refusal .number) 0 e)))
     go false e = omega arith
+
+pub comparing : ComparingHolds
+unfolding nettedOf netOffsetOf nettedAnswer
+comparing s room =
+    record { netting = bounded s (nettingRefusal s room) (netted-accepted s room); one-call = bounded s (netOffsetRefusal s room) (both-accepted s room) }
 
 pub reaching : ReachingHolds
 unfolding nettedOf nettedAnswer figureOf

@@ -24,7 +24,7 @@ use Rattle.join.proofs.JoinedBook.{joined-rows, joined-accepted}
 use Rattle.join.proofs.Outcome.{written-book}
 use Rattle.market_risk.specs.Entries.{reportFigures}
 use Rattle.claims.specs.Zones.{TwoZonesEach}
-use Rattle.claims.specs.Demands.{AtMost, no-figures, figure, joinedBook, JoiningHolds}
+use Rattle.claims.specs.Demands.{AtMost, no-figures, figure, joinedBook, JoiningHolds, NoDearerHolds}
 use Rattle.claims.proofs.Charging.{specific-joined, interest-joined, equity-joined, exchange-joined, commodities-joined}
 
 -- the bytes that join writes are the joined book
@@ -55,11 +55,11 @@ unfolding TwoZonesEach
 two-in-each s two g member = two g (omega (arith, in-span g 0 (lastGroup + 1) member))
 
 -- the charges of a book whose rows are those of two
-no-dearer : (table : List ℕ) → tableRefusal table ≡ 0 → (j a b : List ℕ) → Accepted j → Accepted a → Accepted b
+of-two : (table : List ℕ) → tableRefusal table ≡ 0 → (j a b : List ℕ) → Accepted j → Accepted a → Accepted b
     → ((class : ℕ) → 1 ≤ class → class ≤ 4 → classRows j class ≡ classRows a class ++ classRows b class)
     → TwoZonesEach j → AtMost (reportFigures (reportOf table j)) (reportFigures (reportOf table a)) (reportFigures (reportOf table b))
 unfolding reportFigures reportWith chargedReport interestRisk equityRisk
-no-dearer table fine j a b of-j of-a of-b legs two =
+of-two table fine j a b of-j of-a of-b legs two =
     let ok = accepted-table table (described table fine) in
     let rows1 = legs 1 (omega arith) (omega arith) in
     let rows2 = legs 2 (omega arith) (omega arith) in
@@ -78,7 +78,7 @@ no-dearer table fine j a b of-j of-a of-b legs two =
     (six-at-most specific1 interest specific2 equity exchange commodity)
 
 pub joining : JoiningHolds
-joining table fine a b out e =
+joining a b out e =
     let settled = joins a b (length out) e in
     let whole = book-written a b out settled in
     let accepted = joined-accepted a b (settled .first) (settled .second) (settled .few) in
@@ -86,5 +86,11 @@ joining table fine a b out e =
     record {
       accepted = rw whole (refused-with-none (joined a b) accepted);
       rows = rw whole (also (rows 1) (also (rows 2) (also (rows 3) (also (rows 4) none))));
-      no-dearer = rw whole (no-dearer table fine (joined a b) a b accepted (settled .first) (settled .second) (joined-legs a b (settled .first) (settled .second)));
     }
+
+pub no-dearer : NoDearerHolds
+no-dearer table fine a b out e =
+    let settled = joins a b (length out) e in
+    let accepted = joined-accepted a b (settled .first) (settled .second) (settled .few) in
+    let legs = joined-legs a b (settled .first) (settled .second) in
+    rw (book-written a b out settled) (of-two table fine (joined a b) a b accepted (settled .first) (settled .second) legs)

@@ -37,7 +37,7 @@ use Rattle.claims.specs.Demands.{Within, all-within, one-within, AtMost,
 use Rattle.claims.specs.Netting.{Nettable, NettingHolds, NettedJoiningHolds}
 use Rattle.claims.proofs.Writing.{neither-refused, classes-each, book-bytes, book-counts, fewer-rows, fewer-accepted}
 use Rattle.claims.proofs.Thinner.{specific-thins, interest-thins, equity-thins, exchange-thins, commodities-thin}
-use Rattle.claims.proofs.Joining.{book-written, joined-legs, joining}
+use Rattle.claims.proofs.Joining.{book-written, joined-legs, no-dearer}
 use Rattle.claims.proofs.Nettable.{can-class, nettable}
 
 -- ---- the netted book
@@ -162,7 +162,7 @@ netted-joining table fine a b out e of-j of-a of-b two =
     let same = book-written (nettedBook a) (nettedBook b) again ok in
     let accepted = ap (λ (refusal : Refusal). refusal .number) (not-refused (nettedBook a) (nettedBook b) (length again) ok) in
     let zones = both-zones a b able able-a able-b (settled .few) (rw whole at two) in
-    let most = joining table fine (nettedBook a) (nettedBook b) again accepted .no-dearer (rw same zones) in
+    let most = no-dearer table fine (nettedBook a) (nettedBook b) again accepted (rw same zones) in
     rw whole
     (within-at-most
     (thinner-book table fine again (nettedBook (joined a b)) (joined-accepted (nettedBook a) (nettedBook b) (ok .first) (ok .second) (ok .few)) (netted-accepted able)

@@ -26,7 +26,7 @@ use Rattle.claims.specs.Zones.{TwoZonesEach}
 use Rattle.claims.specs.Demands.{joinedBook}
 use Rattle.claims.specs.Options.{AcceptingOptionsHolds, OptionsBookHolds, OptionsBytesHolds, OptionsJoiningHolds, GreeksTogetherHolds}
 use Rattle.claims.proofs.Writing.{classes-each, book-bytes}
-use Rattle.claims.proofs.Joining.{book-written, joined-legs, joining}
+use Rattle.claims.proofs.Joining.{book-written, joined-legs, joining, no-dearer}
 
 -- ---- the tables that are taken
 pub accepting-options : AcceptingOptionsHolds
@@ -69,13 +69,12 @@ unfolding TwoZonesEach
 options-joining table fine s t out of-s of-t e =
     let a = optionsBook s in
     let b = optionsBook t in
-    let joined = joining table fine a b out e in
     let settled = joins a b (length out) e in
     let rows : classRows (joinedBook a b out) 1 ≡ [] =
     rw (book-written a b out settled) (rw (no-interest s of-s, no-interest t of-t) at (joined-legs a b (settled .first) (settled .second) 1 (omega arith) (omega arith))) in
     record {
-      accepted = joined .accepted;
-      no-dearer = joined .no-dearer (λ currency within. rw rows (no-zone currency));
+      accepted = joining a b out e .accepted;
+      no-dearer = no-dearer table fine a b out e (λ currency within. rw rows (no-zone currency));
     }
 
 -- ---- gamma and vega

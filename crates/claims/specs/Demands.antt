@@ -60,15 +60,19 @@ pub data AtMost : (whole a b : List ℕ) → Type 0 where
 unfoldable pub joinedBook : List ℕ → List ℕ → List ℕ → List ℕ
 joinedBook a b out = take (joinedOf a b (length out) .length) (joinOutput a b out)
 
--- demand 3, joining, for every two books and every output that join accepts, and one accepted table for all three books (P10)
-pub record Joining (table a b out : List ℕ) : Type 0 where
+-- demand 3, joining, for every two books and every output that join accepts: the joined book is accepted and has A's rows and then B's
+pub record Joining (a b out : List ℕ) : Type 0 where
   pub accepted : refusalOf (joinedBook a b out) ≡ refused 0 0
   pub rows : Every (λ class. rowsOf (joinedBook a b out) class ≡ rowsOf a class ++ rowsOf b class) classes
-  pub no-dearer : TwoZonesEach (joinedBook a b out)
-      → AtMost (reportFigures (reportOf table (joinedBook a b out))) (reportFigures (reportOf table a)) (reportFigures (reportOf table b))
 
 abbrev pub JoiningHolds : Type 0
-JoiningHolds = (table : List ℕ) → tableRefusal table ≡ 0 → (a b out : List ℕ) → joinRefusal a b (length out) .number ≡ 0 → Joining table a b out
+JoiningHolds = (a b out : List ℕ) → joinRefusal a b (length out) .number ≡ 0 → Joining a b out
+
+-- and by one accepted table for all three books (P10) no charge and no total exceeds the sum, where the joined book uses at most two zones in each currency
+abbrev pub NoDearerHolds : Type 0
+NoDearerHolds =
+    (table : List ℕ) → tableRefusal table ≡ 0 → (a b out : List ℕ) → joinRefusal a b (length out) .number ≡ 0 → TwoZonesEach (joinedBook a b out)
+    → AtMost (reportFigures (reportOf table (joinedBook a b out))) (reportFigures (reportOf table a)) (reportFigures (reportOf table b))
 
 -- ---- order and mirror
 -- demand 3, order and mirror, for every accepted book and every book that its rows make in any order, mirrored all or none

@@ -15,6 +15,7 @@ use Rattle.table.specs.Loaded.{tableRefusal}
 use Rattle.charges.specs.Report.{classRows, reportOf}
 use Rattle.join.specs.Joined.{joinRefusal}
 use Rattle.netting.specs.Netted.{issuesRefusal, nettingRefusal, nettedBook, nettedOf, nettingOutput}
+use Rattle.offsetting.specs.NetOffset.{netOffsetOf}
 use Rattle.market_risk.specs.Entries.{reportFigures}
 use Rattle.claims.specs.Zones.{TwoZonesEach}
 use Rattle.claims.specs.Demands.{Within, AtMost, joinedBook}
@@ -47,9 +48,14 @@ pub record Netting (table s out : List ℕ) : Type 0 where
 abbrev pub NettingHolds : Type 0
 NettingHolds = (table : List ℕ) → tableRefusal table ≡ 0 → (s out : List ℕ) → nettingRefusal s (length out) .number ≡ 0 → Netting table s out
 
--- ---- how many comparisons (P7): of the n rows of a book at most n(n - 1)/2, for every book and every output
+-- ---- how many comparisons (P7): of the n rows of a book at most n(n - 1)/2, in netting and in the one call that offsets too (P3)
+pub record Comparing (s : List ℕ) (room : ℕ) : Type 0 where
+  pub netting : nettedOf s room .comparisons ≤ length (legsOf s) * (length (legsOf s) - 1) / 2
+  pub one-call : netOffsetOf s room .comparisons ≤ length (legsOf s) * (length (legsOf s) - 1) / 2
+
+-- for every book and every output
 abbrev pub ComparingHolds : Type 0
-ComparingHolds = (s : List ℕ) (room : ℕ) → nettedOf s room .comparisons ≤ length (legsOf s) * (length (legsOf s) - 1) / 2
+ComparingHolds = (s : List ℕ) (room : ℕ) → Comparing s room
 
 -- and it is reached, by every book that is netted whose rows are all of one class and of different issues
 abbrev pub ReachingHolds : Type 0

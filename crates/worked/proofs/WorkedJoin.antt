@@ -18,7 +18,7 @@ use Rattle.market_risk.specs.Entries.{reportFigures}
 use Rattle.claims.specs.Zones.{TwoZonesEach}
 use Rattle.claims.specs.Demands.{Within, all-within, one-within, AtMost, no-figures, figure, joinedBook}
 use Rattle.worked.specs.Worked.{firstZone, secondZone, JoinedWithin}
-use Rattle.claims.proofs.Joining.{joining}
+use Rattle.claims.proofs.Joining.{no-dearer}
 use Rattle.worked.proofs.WorkedBooks.{given}
 
 -- ---- what is computed
@@ -68,5 +68,5 @@ bounded (figure h more) = one-within h (bounded more)
 pub joined-within : JoinedWithin
 unfolding sums
 joined-within =
-    let most = joining standardBytes standard-accepted firstZone secondZone out not-refused .no-dearer two-zones in
+    let most = no-dearer standardBytes standard-accepted firstZone secondZone out not-refused two-zones in
     bounded (rw (first-figures, second-figures) at most)
