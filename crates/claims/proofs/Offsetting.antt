@@ -12,22 +12,20 @@ use borrow.Author.Tests.{eq-eqb}
 use Rattle.sums.specs.Every.{Every, none, also}
 use Rattle.sums.proofs.Every.{every-implied}
 use Rattle.book.specs.declared.Row.{Row}
-use Rattle.book.specs.Legs.{legsOf}
 use Rattle.book.specs.Accepted.{Clean, Accepted}
 use Rattle.book.specs.Refusals.{refusalOf}
 use Rattle.book.proofs.Acceptance.{accepted, refused-with-none}
-use Rattle.book.proofs.Walking.{legs-length}
 use Rattle.layout.specs.Room.{figureOf, writtenOf, outputOf}
 use Rattle.layout.proofs.Rows.{book-legs, book-same}
 use Rattle.swaps.specs.Fitting.{fits}
 use Rattle.swaps.specs.Offset.{offsetRows}
 use Rattle.swaps.proofs.Fitting.{clean-alone}
-use Rattle.swaps.proofs.Left.{offset-every, offset-fewer, offset-others, offset-none-fit, none-fits-any, offset-again}
+use Rattle.swaps.proofs.Left.{offset-every, offset-some, offset-fewer, offset-others, offset-none-fit, none-fits-any, offset-again}
 use Rattle.charges.specs.Report.{classRows}
 use Rattle.book.proofs.ClassRows.{rows-clean}
 use Rattle.offsetting.specs.Offset.{offsetBy, offsetBook, offsettingRefusal, offsetOf, offsettingOutput}
 use Rattle.claims.specs.Offsetting.{OffsettingHolds}
-use Rattle.claims.proofs.Writing.{neither-refused, classes-each, book-bytes, book-counts, fewer-rows, fewer-accepted}
+use Rattle.claims.proofs.Writing.{neither-refused, classes-each, book-bytes, fewer-accepted}
 
 -- ---- the rows of each class, the interest rows offset
 module _ (rows : ℕ → List Row) (class : ℕ) where
@@ -78,12 +76,6 @@ module _ (s : List ℕ) where
         let clean = rows-clean s ok class low high in
         by-class (classRows s) class (Every (Clean class)) (offset-every clean) clean)
 
-    fewer-legs : length (legsOf (offsetBook s)) ≤ length (legsOf s)
-    unfolding offsetBook
-    fewer-legs =
-        rw (legs-length (offsetBook s) (offset-accepted .sized), book-counts (offsetBy (classRows s)), legs-length s (ok .sized))
-        (fewer-rows ok (offsetBy (classRows s)) (by-class-fewer (classRows s)))
-
     -- a row of an accepted book does not fit itself
     none-itself : Every (λ row. fits row row ≡ false) (classRows s 1)
     none-itself = every-implied clean-alone (rows-clean s ok 1 (omega arith) (omega arith))
@@ -102,7 +94,7 @@ offsetting s out e =
       bytes = offset-bytes s out e;
       accepted = refused-with-none (offsetBook s) (offset-accepted s ok);
       rows = classes-each rows;
-      fewer = fewer-legs s ok;
+      some-left = rw (offset-interest s) (offset-some (classRows s 1));
       other-kinds = rw (offset-interest s) (offset-others (classRows s 1));
       other-classes = also (rows 2 (omega arith) (omega arith)) (also (rows 3 (omega arith) (omega arith)) (also (rows 4 (omega arith) (omega arith)) none));
       none-fit = rw (offset-interest s) (none-fits-any (offset-none-fit (classRows s 1)) (offset-every (none-itself s ok)));
