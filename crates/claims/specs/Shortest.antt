@@ -4,25 +4,21 @@ use mathlib.Core.Path.{_≡_}
 use mathlib.Core.Bool.{false}
 use mathlib.Core.List.{List}
 use lib.ListN.{length, take}
-use Rattle.book.specs.Refusals.{refused}
+use Rattle.book.specs.Refusals.{refused, refusalOf}
 use Rattle.table.specs.Loaded.{tableRefusal}
 use Rattle.charges.specs.Report.{reportOf}
 use Rattle.shortest.specs.Shortest.{shortestFile, shortestRefusal, shortestOf, shortestOutput}
 
--- the number with which the charge call refuses a book, by a table
-abbrev pub numberBy : (table s : List ℕ) → ℕ
-numberBy table s = reportOf table s .refusal .number
-
--- of a book that the charge call refuses by an accepted table: the file is refused with the same number, at row 0; it is no longer than the book; and
--- no bytes that are fewer are refused with that number
-pub record Shortest (table s : List ℕ) : Type 0 where
-  pub same : reportOf table (shortestFile s) .refusal ≡ refused (numberBy table s) 0
+-- of a refused book: by every accepted table the charge call refuses the file with the same number, at row 0; it is no longer than the book; and no
+-- bytes that are fewer give that number through the charge call, by whatever table
+pub record Shortest (s : List ℕ) : Type 0 where
+  pub same : (table : List ℕ) → tableRefusal table ≡ 0 → reportOf table (shortestFile s) .refusal ≡ refused (refusalOf s .number) 0
   pub no-longer : length (shortestFile s) ≤ length s
-  pub least : (t : List ℕ) → length t < length (shortestFile s) → numberBy table t ≡ numberBy table s → ⊥
+  pub least : (table t : List ℕ) → length t < length (shortestFile s) → reportOf table t .refusal .number ≡ refusalOf s .number → ⊥
 
--- for every accepted table and every book that is refused
+-- for every book that is refused
 abbrev pub ShortestHolds : Type 0
-ShortestHolds = (table : List ℕ) → tableRefusal table ≡ 0 → (s : List ℕ) → (numberBy table s ≡ 0 → ⊥) → Shortest table s
+ShortestHolds = (s : List ℕ) → (refusalOf s .number ≡ 0 → ⊥) → Shortest s
 
 -- the bytes that the call writes, up to the length that it gives, are that file; an output of 24 bytes is long enough for every book; and of a refused
 -- call the mark is not set either
