@@ -130,6 +130,9 @@ refusalFacts =
     ∷ refuses (first 0 0 0) 5 0
     ∷ refuses (first 5 0 0) 5 0
     ∷ refuses (bookOf (equity 0 4 1 0 ∷ [])) 5 0
+    ∷ refuses (bookOf (leg 2 0 1 1 1 1 0 ∷ [])) 6 0
+    ∷ refuses (bookOf (leg 2 0 1 0 1 1 0 ∷ [])) 7 0
+    ∷ refuses (bookOf (leg 4 0 0 36000 1 1 0 ∷ [])) 7 0
     ∷ refuses (first 1 36001 0) 6 0
     ∷ refuses (first 1 36000 10001) 7 0
     ∷ costs (first 3 0 10000) 80000 0 0 0 0 0 80000 1
