@@ -18,7 +18,7 @@ use Rattle.book.specs.Accepted.{Accepted}
 use Rattle.book.proofs.Placing.{of-four}
 use Rattle.book.proofs.Walking.{legs-length}
 use Rattle.book.proofs.Acceptance.{accepted}
-use Rattle.layout.specs.Room.{figureOf}
+use Rattle.layout.specs.Room.{orNext, figureOf}
 use Rattle.issues.specs.Issues.{has}
 use Rattle.issues.specs.Comparing.{comparisonsFrom, comparisons}
 use Rattle.issues.proofs.Comparing.{comparisons-from, comparisons-reached}
@@ -81,13 +81,10 @@ module _ (s : List ℕ) (ok : Accepted s) where
       (λ all. omega (arith, four, none-compared (rows 1) (omega (arith, four)), none-compared (rows 2) (omega (arith, four)), none-compared (rows 4) (omega (arith, four))))
       (λ all. omega (arith, four, none-compared (rows 1) (omega (arith, four)), none-compared (rows 2) (omega (arith, four)), none-compared (rows 3) (omega (arith, four))))
 
-netted-accepted : (s : List ℕ) (room : ℕ) → nettingRefusal s room .number ≡ 0 → Accepted s
-unfolding nettingRefusal issuesRefusal
-netted-accepted s room e = accepted s (neither-refused _ _ (neither-refused _ _ e .0) .0)
-
-both-accepted : (s : List ℕ) (room : ℕ) → netOffsetRefusal s room .number ≡ 0 → Accepted s
-unfolding netOffsetRefusal issuesRefusal
-both-accepted s room e = accepted s (neither-refused _ _ (neither-refused _ _ e .0) .0)
+-- a book whose issues can be netted is accepted
+able-accepted : (s : List ℕ) → issuesRefusal s .number ≡ 0 → Accepted s
+unfolding issuesRefusal
+able-accepted s e = accepted s (neither-refused _ _ e .0)
 
 -- the comparisons of a call that takes accepted books alone
 bounded : (s : List ℕ) (refusal : Refusal) → (refusal .number ≡ 0 → Accepted s)
@@ -100,14 +97,16 @@ bounded s refusal taken = go (eqb (refusal .number) 0) refl
     go false e = omega arith
 
 pub comparing : ComparingHolds
-unfolding nettedOf netOffsetOf nettedAnswer
+unfolding nettedOf netOffsetOf nettedAnswer nettingRefusal netOffsetRefusal
 comparing s room =
-    record { netting = bounded s (nettingRefusal s room) (netted-accepted s room); one-call = bounded s (netOffsetRefusal s room) (both-accepted s room) }
+    let taken : (next : Refusal) → orNext (issuesRefusal s) next .number ≡ 0 → Accepted s =
+    λ next e. able-accepted s (neither-refused (issuesRefusal s) next e .0) in
+    record { netting = bounded s _ (taken _); one-call = bounded s _ (taken _) }
 
 pub reaching : ReachingHolds
-unfolding nettedOf nettedAnswer figureOf
+unfolding nettedOf nettedAnswer figureOf nettingRefusal
 reaching s room e class low high all different =
     let rows = ofClass class (legsOf s) in
     let most = comparisons-reached [] (every-all (λ row. nothing-kept (row .issue)) rows) different in
     rw (eq-eqb (nettingRefusal s room .number) 0 e)
-    (halved (length (legsOf s)) (comparisonsOf s) (rw (reached s (netted-accepted s room e) class low high all, ← all) (omega (arith, most))))
+    (halved (length (legsOf s)) (comparisonsOf s) (rw (reached s (able-accepted s (neither-refused (issuesRefusal s) _ e .0)) class low high all, ← all) (omega (arith, most))))
