@@ -156,8 +156,8 @@ pub(crate) fn written(column: &Column, number: u16) -> String {
     taken(number.into(), column.doubtful)
 }
 
-/// What is wrong with digits that are no number of a column.
-fn fault<T: TryFrom<u64>>(column: &Column, text: &str) -> Result<T, String> {
+/// The number that digits make in a column, or what is wrong with them.
+fn number<T: TryFrom<u64>>(column: &Column, text: &str) -> Result<T, String> {
     if cut_off(text) {
         let number = text.trim_start_matches('0');
         let number = if number.is_empty() { "0" } else { number };
@@ -179,9 +179,9 @@ fn fault<T: TryFrom<u64>>(column: &Column, text: &str) -> Result<T, String> {
 /// The number of a field, within what its bytes can hold.
 pub fn field<T: TryFrom<u64>>(column: &Column, text: &str) -> Result<T, Wrong> {
     let read = match text {
-        "" if column.may_be_empty => fault(column, "0"),
+        "" if column.may_be_empty => number(column, "0"),
         "" => Err(empty(column)),
-        _ if digits(text) => fault(column, text),
+        _ if digits(text) => number(column, text),
         _ => Err(format!(" is {}{}", shown(text), why(column, text))),
     };
     read.map_err(|what| Wrong {

@@ -40,7 +40,8 @@ pub const COMMAND: Command = Command {
         ]),
         Part::Text(
             "Blank lines and lines that begin with # are passed over. Of the 36 bytes, 30 are \
-             the weights, two bytes each, low byte first, and six are the per cents.",
+             the weights, two bytes each, low byte first, and six are the per cents. A file of \
+             more than 64,000 bytes is no table, and is not read to its end.",
         ),
         Part::Text(
             "A table must have weights that never fall and are at most 2,000, vertical at most \
