@@ -1,17 +1,17 @@
 // How many rows are left.
 ghost use Rattle.std.specs.Prelude.{◌≡◌, cond, ◌+◌, ◌≤◌, ◌<◌};
-ghost use Rattle.book.specs.Counts.{rowCount};
-ghost use Rattle.book.specs.Refusals.{mostRows};
-ghost use Rattle.amounts.specs.Inner.Standing.{positionsIn};
-ghost use Rattle.amounts.specs.Inner.Counting.{isLeft, leftRows, classLeft, leftCounts};
+ghost use Rattle.book.specs.Counts.{count_of_rows};
+ghost use Rattle.book.specs.Refusals.{most_rows};
+ghost use Rattle.amounts.specs.Inner.Standing.{positions_in};
+ghost use Rattle.amounts.specs.Inner.Counting.{is_left, left_rows, class_left, left_counts};
 
 use book::{Counts, MOST_ROWS};
 use ladder::positions::Position;
 
 // The amounts at a number.
 pub fn amounts_at(longs: &[u64; MOST_ROWS], shorts: &[u64; MOST_ROWS], row: usize) -> Position
-    requires { row < mostRows }
-    ensures { result ≡ positionsIn longs.now shorts.now row }
+    requires { row < most_rows }
+    ensures { result ≡ positions_in longs.now shorts.now row }
 {
     Position {
         long: longs[row],
@@ -21,7 +21,7 @@ pub fn amounts_at(longs: &[u64; MOST_ROWS], shorts: &[u64; MOST_ROWS], row: usiz
 
 // Whether there is an amount on either side.
 pub fn is_left(amounts: Position) -> bool
-    ensures { result ≡ isLeft amounts }
+    ensures { result ≡ is_left amounts }
 {
     if amounts.long != 0 {
         return true;
@@ -31,15 +31,15 @@ pub fn is_left(amounts: Position) -> bool
 
 // 1 for a row with an amount on either side, else 0.
 fn one_left(amounts: Position) -> u16
-    ensures { (result ≡ cond (isLeft amounts) 1 0) × (result ≤ 1) }
+    ensures { (result ≡ cond (is_left amounts) 1 0) × (result ≤ 1) }
 {
     if is_left(amounts) { 1 } else { 0 }
 }
 
 // How many of some rows, numbered from `first` on, are left.
 fn left_rows(longs: &[u64; MOST_ROWS], shorts: &[u64; MOST_ROWS], first: usize, many: u16) -> u16
-    requires { first + many ≤ mostRows }
-    ensures { result ≡ leftRows (positionsIn longs.now shorts.now) first many }
+    requires { first + many ≤ most_rows }
+    ensures { result ≡ left_rows (positions_in longs.now shorts.now) first many }
 {
     let mut left: u16 = 0;
     for row in 0..many {
@@ -55,8 +55,8 @@ fn class_left(
     counts: Counts,
     class: usize,
 ) -> u16
-    requires { rowCount counts ≤ mostRows }
-    ensures { result ≡ classLeft (positionsIn longs.now shorts.now) counts class }
+    requires { count_of_rows counts ≤ most_rows }
+    ensures { result ≡ class_left (positions_in longs.now shorts.now) counts class }
 {
     left_rows(
         longs,
@@ -68,8 +68,8 @@ fn class_left(
 
 // How many rows of each class are left.
 pub fn left_counts(longs: &[u64; MOST_ROWS], shorts: &[u64; MOST_ROWS], counts: Counts) -> Counts
-    requires { rowCount counts ≤ mostRows }
-    ensures { result ≡ leftCounts (positionsIn longs.now shorts.now) counts }
+    requires { count_of_rows counts ≤ most_rows }
+    ensures { result ≡ left_counts (positions_in longs.now shorts.now) counts }
 {
     Counts {
         interest: class_left(longs, shorts, counts, 1),

@@ -4,9 +4,9 @@ pub mod own;
 mod writing;
 
 ghost use Rattle.std.specs.Prelude.{◌≡◌, length as len};
-ghost use Rattle.book.specs.Counts.{countsOf};
-ghost use Rattle.layout.specs.Room.{roomRefusal, written_of, outputOf};
-ghost use Rattle.amounts.specs.Inner.Standing.{positionsIn, standingBook, CanStand};
+ghost use Rattle.book.specs.Counts.{counts_of};
+ghost use Rattle.layout.specs.Room.{room_refusal, written_of, output_of};
+ghost use Rattle.amounts.specs.Inner.Standing.{positions_in, standing_book, CanStand};
 
 use book::{CONTENTS_SIZE, Counts, MOST_ROWS, ROW_SIZE};
 use layout::Written;
@@ -19,8 +19,8 @@ pub fn write_book(
     shorts: &[u64; MOST_ROWS],
     out: &mut [u8],
 ) -> Written
-    requires { (counts ≡ countsOf book.now) × CanStand book.now (positionsIn longs.now shorts.now) }
-    ensures { (result ≡ written_of (roomRefusal (len (standingBook (positionsIn longs.now shorts.now) book.now)) (len out.old)) (standingBook (positionsIn longs.now shorts.now) book.now)) × (out.new ≡ outputOf result.refusal (standingBook (positionsIn longs.now shorts.now) book.now) out.old) }
+    requires { (counts ≡ counts_of book.now) × CanStand book.now (positions_in longs.now shorts.now) }
+    ensures { (result ≡ written_of (room_refusal (len (standing_book (positions_in longs.now shorts.now) book.now)) (len out.old)) (standing_book (positions_in longs.now shorts.now) book.now)) × (out.new ≡ output_of result.refusal (standing_book (positions_in longs.now shorts.now) book.now) out.old) }
 {
     let left = counting::left_counts(longs, shorts, counts);
     let length = CONTENTS_SIZE + ROW_SIZE * left.rows();

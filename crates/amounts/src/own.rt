@@ -1,10 +1,10 @@
 // The rows' own amounts, at their numbers.
 ghost use Rattle.std.specs.Prelude.{◌≡◌, ◌+◌, ◌≤◌, length};
-ghost use Rattle.book.specs.Counts.{countsOf};
-ghost use Rattle.book.specs.Legs.{legsOf, ofClass};
-ghost use Rattle.book.specs.Refusals.{mostRows};
+ghost use Rattle.book.specs.Counts.{counts_of};
+ghost use Rattle.book.specs.Legs.{legs_of, of_class};
+ghost use Rattle.book.specs.Refusals.{most_rows};
 ghost use Rattle.book.specs.Accepted.{Accepted};
-ghost use Rattle.book.specs.Inner.Reading.{partRows};
+ghost use Rattle.book.specs.Inner.Reading.{part_rows};
 ghost use Rattle.amounts.specs.Inner.Standing.{Tables, Stands};
 ghost use Rattle.amounts.specs.Inner.Own.{OwnIn};
 
@@ -17,8 +17,8 @@ fn class_amounts(
     longs: &mut [u64; MOST_ROWS],
     shorts: &mut [u64; MOST_ROWS],
 )
-    requires { (first + length (partRows part.now) ≤ mostRows) × Tables longs.old shorts.old }
-    ensures { OwnIn first (partRows part.now) longs.old shorts.old longs.new shorts.new }
+    requires { (first + length (part_rows part.now) ≤ most_rows) × Tables longs.old shorts.old }
+    ensures { OwnIn first (part_rows part.now) longs.old shorts.old longs.new shorts.new }
 {
     let mut row: usize = 0;
     while row < book::rows::row_count(part) {
@@ -37,8 +37,8 @@ pub fn own_amounts(
     longs: &mut [u64; MOST_ROWS],
     shorts: &mut [u64; MOST_ROWS],
 )
-    requires { (counts ≡ countsOf book.now) × Accepted book.now × Tables longs.old shorts.old }
-    ensures { Stands book.now (λ class. ofClass class (legsOf book.now)) longs.new shorts.new }
+    requires { (counts ≡ counts_of book.now) × Accepted book.now × Tables longs.old shorts.old }
+    ensures { Stands book.now (λ class. of_class class (legs_of book.now)) longs.new shorts.new }
 {
     for class in 1..5usize {
         class_amounts(

@@ -1,14 +1,14 @@
 // The rows with their amounts, written into the output.
 ghost use Rattle.std.specs.Prelude.{◌≡◌, ◌+◌, ◌≤◌, length};
 ghost use mathlib.Core.List.{flat_map};
-ghost use Rattle.book.specs.Counts.{contentsSize, classes};
-ghost use Rattle.book.specs.Refusals.{mostAmount};
-ghost use Rattle.book.specs.Inner.Reading.{partRows};
+ghost use Rattle.book.specs.Counts.{contents_size, classes};
+ghost use Rattle.book.specs.Refusals.{most_amount};
+ghost use Rattle.book.specs.Inner.Reading.{part_rows};
 ghost use Rattle.ladder.specs.Position.{gross};
 ghost use Rattle.layout.specs.Written.{written};
 ghost use Rattle.issues.specs.Issues.{holding as holdingOf};
-ghost use Rattle.amounts.specs.Inner.Standing.{positionsIn};
-ghost use Rattle.amounts.specs.Inner.Writing.{placedBytes, standingBytes, CanWriteRows, standingBody, CanWrite};
+ghost use Rattle.amounts.specs.Inner.Standing.{positions_in};
+ghost use Rattle.amounts.specs.Inner.Writing.{placed_bytes, standing_bytes, CanWriteRows, standing_body, CanWrite};
 
 use crate::counting;
 use book::{CONTENTS_SIZE, Counts, MOST_ROWS, ROW_SIZE, Row};
@@ -16,7 +16,7 @@ use ladder::positions::Position;
 
 // A row with other amounts.
 fn holding(row: Row, amounts: Position) -> Row
-    requires { gross amounts ≤ mostAmount }
+    requires { gross amounts ≤ most_amount }
     ensures { result ≡ holdingOf row amounts }
 {
     Row {
@@ -32,8 +32,8 @@ fn holding(row: Row, amounts: Position) -> Row
 
 // Writes a row with its amounts, unless they are zero, and says where it ends.
 fn write_amounts(row: Row, amounts: Position, out: &mut [u8], at: usize) -> usize
-    requires { (gross amounts ≤ mostAmount) × (at + length (placedBytes row amounts) ≤ length out.old) }
-    ensures { (result ≡ at + length (placedBytes row amounts)) × (out.new ≡ written out.old at (placedBytes row amounts)) }
+    requires { (gross amounts ≤ most_amount) × (at + length (placed_bytes row amounts) ≤ length out.old) }
+    ensures { (result ≡ at + length (placed_bytes row amounts)) × (out.new ≡ written out.old at (placed_bytes row amounts)) }
 {
     if amounts.long + amounts.short == 0 {
         return at;
@@ -51,8 +51,8 @@ fn write_class(
     out: &mut [u8],
     at: usize,
 ) -> usize
-    requires { CanWriteRows (positionsIn longs.now shorts.now) first (partRows part.now) at (length out.old) }
-    ensures { (result ≡ at + length (standingBytes (positionsIn longs.now shorts.now) first (partRows part.now))) × (out.new ≡ written out.old at (standingBytes (positionsIn longs.now shorts.now) first (partRows part.now))) }
+    requires { CanWriteRows (positions_in longs.now shorts.now) first (part_rows part.now) at (length out.old) }
+    ensures { (result ≡ at + length (standing_bytes (positions_in longs.now shorts.now) first (part_rows part.now))) × (out.new ≡ written out.old at (standing_bytes (positions_in longs.now shorts.now) first (part_rows part.now))) }
 {
     let mut end: usize = at;
     let mut row: usize = 0;
@@ -73,8 +73,8 @@ pub fn write_bodies(
     shorts: &[u64; MOST_ROWS],
     out: &mut [u8],
 )
-    requires { CanWrite book.now counts (positionsIn longs.now shorts.now) (length out.old) }
-    ensures { out.new ≡ written out.old contentsSize (flat_map (standingBody (positionsIn longs.now shorts.now) counts book.now) classes) }
+    requires { CanWrite book.now counts (positions_in longs.now shorts.now) (length out.old) }
+    ensures { out.new ≡ written out.old contents_size (flat_map (standing_body (positions_in longs.now shorts.now) counts book.now) classes) }
 {
     let mut at: usize = CONTENTS_SIZE;
     for class in 1..5usize {

@@ -10,7 +10,7 @@ use lib.Dec.{ltb, eqb}
 use borrow.Author.Tests.{ltb-false, le-ltb, eqb-true, eqb-false, eq-eqb, ne_eqb}
 use Rattle.sums.proofs.Cases.{untaken, neither}
 use Rattle.book.specs.Rows.{Row}
-use Rattle.book.specs.Refusals.{floating, groupRefusal, plainRefusal, noteRefusal, termsRefusal, amountsRefusal, or_else, rowRefusal}
+use Rattle.book.specs.Refusals.{floating, group_refusal, plain_refusal, note_refusal, terms_refusal, amounts_refusal, or_else, row_refusal}
 use Rattle.book.specs.Accepted.{Terms, plain, note, Clean}
 
 -- neither of two refusals applies
@@ -33,24 +33,24 @@ one_side long short = go (eqb long 0) refl (eqb short 0) refl
     go false l false s e = absurd (true≢false e)
 
 -- so that one of them is over a limit just where their sum is
-pub over-sum : (most long short : ℕ) → beq (eqb long 0) (eqb short 0) ≡ false → (ltb most long || ltb most short) ≡ ltb most (long + short)
-over-sum most long short e =
+pub over_sum : (most long short : ℕ) → beq (eqb long 0) (eqb short 0) ≡ false → (ltb most long || ltb most short) ≡ ltb most (long + short)
+over_sum most long short e =
     ⊎_elim
     (λ h. rw (h.1, add-zero long, le-ltb most 0 (omega arith), or-false))
     (λ h. rw (h.0, zero-add short, le-ltb most 0 (omega arith)))
     (one_side long short e)
 
-one-test : (long short : ℕ) → ((0 < long) × (short ≡ 0)) ⊎ ((long ≡ 0) × (0 < short)) → beq (eqb long 0) (eqb short 0) ≡ false
-one-test long short (inl h) = simp (ne_eqb long 0 (λ e. omega arith), eq-eqb short 0 h.1)
-one-test long short (inr h) = simp (eq-eqb long 0 h.0, ne_eqb short 0 (λ e. omega arith))
+one_test : (long short : ℕ) → ((0 < long) × (short ≡ 0)) ⊎ ((long ≡ 0) × (0 < short)) → beq (eqb long 0) (eqb short 0) ≡ false
+one_test long short (inl h) = simp (ne_eqb long 0 (λ e. omega arith), eq-eqb short 0 h.1)
+one_test long short (inr h) = simp (eq-eqb long 0 h.0, ne_eqb short 0 (λ e. omega arith))
 
 -- ---- days and coupon, or the two maturities of a note
 module _ (class : ℕ) (row : Row) where
-  terms-allowed : termsRefusal class row ≡ 0 → Terms class row.kind row.days row.coupon
-  unfolding termsRefusal noteRefusal plainRefusal
-  terms-allowed = go (floating class row.kind) refl
+  terms_allowed : terms_refusal class row ≡ 0 → Terms class row.kind row.days row.coupon
+  unfolding terms_refusal note_refusal plain_refusal
+  terms_allowed = go (floating class row.kind) refl
     where
-      go : (test : Bool) → floating class row.kind ≡ test → cond test (noteRefusal row) (plainRefusal class row) ≡ 0 → Terms class row.kind row.days row.coupon
+      go : (test : Bool) → floating class row.kind ≡ test → cond test (note_refusal row) (plain_refusal class row) ≡ 0 → Terms class row.kind row.days row.coupon
       go true t e =
           let late = neither _ _ (untaken _ 14 0 e).0 in
           let ends = neither _ _ late.1 in
@@ -59,16 +59,16 @@ module _ (class : ℕ) (row : Row) where
           let of-days = untaken _ 5 _ e in
           plain t (ltb-false _ _ of-days.0) (ltb-false _ _ (untaken _ 6 0 of-days.1).0)
 
-  allowed-terms : Terms class row.kind row.days row.coupon → termsRefusal class row ≡ 0
-  unfolding termsRefusal noteRefusal plainRefusal
+  allowed-terms : Terms class row.kind row.days row.coupon → terms_refusal class row ≡ 0
+  unfolding terms_refusal note_refusal plain_refusal
   allowed-terms (plain t days coupon) = simp (t, le-ltb _ _ days, le-ltb _ _ coupon)
   allowed-terms (note t fixing final order) = simp (t, le-ltb _ _ fixing, le-ltb _ _ final, le-ltb _ _ order)
 
 -- ---- the whole row
 module _ (class : ℕ) (row : Row) where
-  pub passes-clean : rowRefusal class row ≡ 0 → Clean class row
-  unfolding rowRefusal groupRefusal amountsRefusal
-  passes-clean e =
+  pub passes_clean : row_refusal class row ≡ 0 → Clean class row
+  unfolding row_refusal group_refusal amounts_refusal
+  passes_clean e =
       let past5 = none_of _ _ e in
       let past7 = none_of _ _ past5.1 in
       let of-group = untaken _ 3 _ past5.0 in
@@ -77,23 +77,23 @@ module _ (class : ℕ) (row : Row) where
       let of-amount = neither _ _ (untaken _ 8 0 of-sides.1).0 in
       record {
         group = ltb-false _ _ of-group.0;
-        kind-from = ltb-false _ _ of-kind.0;
-        kind-to = ltb-false _ _ of-kind.1;
-        terms = terms-allowed class row past7.0;
+        kind_from = ltb-false _ _ of-kind.0;
+        kind_to = ltb-false _ _ of-kind.1;
+        terms = terms_allowed class row past7.0;
         one_side = one_side _ _ of-sides.0;
         long = ltb-false _ _ of-amount.0;
         short = ltb-false _ _ of-amount.1;
       }
 
-  pub clean-passes : Clean class row → rowRefusal class row ≡ 0
-  unfolding rowRefusal groupRefusal amountsRefusal or_else
-  clean-passes clean =
+  pub clean_passes : Clean class row → row_refusal class row ≡ 0
+  unfolding row_refusal group_refusal amounts_refusal or_else
+  clean_passes clean =
       simp (
         le-ltb _ _ clean.group,
-        le-ltb _ _ clean.kind-from,
-        le-ltb _ _ clean.kind-to,
+        le-ltb _ _ clean.kind_from,
+        le-ltb _ _ clean.kind_to,
         allowed-terms class row clean.terms,
-        one-test row.long row.short clean.one_side,
+        one_test row.long row.short clean.one_side,
         le-ltb _ _ clean.long,
         le-ltb _ _ clean.short,
       )

@@ -8,7 +8,7 @@ use native.Mathlib.Numerals.{add-one}
 use native.Mathlib.Omega.{arith}
 use lib.ListN.{drop}
 use borrow.Author.Tests.{ne_eqb}
-use Rattle.book.specs.Counts.{Counts, classes, countIn, rowsBefore, rowCount}
+use Rattle.book.specs.Counts.{Counts, classes, count_in, rows_before, count_of_rows}
 
 -- ---- the four classes
 -- what holds of each of them
@@ -40,49 +40,49 @@ module _ {A : Type 0} (piece : ℕ → List A) where
 -- ---- the counts
 module _ (counts : Counts) where
   -- no other number has rows
-  pub none-past : (class : ℕ) → 5 ≤ class → countIn counts class ≡ 0
-  unfolding countIn
-  none-past class h = simp (ne_eqb class 1 (λ e. omega arith), ne_eqb class 2 (λ e. omega arith), ne_eqb class 3 (λ e. omega arith), ne_eqb class 4 (λ e. omega arith))
+  pub none_past : (class : ℕ) → 5 ≤ class → count_in counts class ≡ 0
+  unfolding count_in
+  none_past class h = simp (ne_eqb class 1 (λ e. omega arith), ne_eqb class 2 (λ e. omega arith), ne_eqb class 3 (λ e. omega arith), ne_eqb class 4 (λ e. omega arith))
 
-  pub before-next : (class : ℕ) → rowsBefore counts (class + 1) ≡ rowsBefore counts class + countIn counts class
-  unfolding rowsBefore
+  pub before-next : (class : ℕ) → rows_before counts (class + 1) ≡ rows_before counts class + count_in counts class
+  unfolding rows_before
   before-next class = rw add-one
 
   -- the rows before a class that is past the fourth are all rows
-  before-past : (n : ℕ) → rowsBefore counts (suc (suc (suc (suc (suc n))))) ≡ rowCount counts
-  unfolding rowsBefore countIn rowCount
+  before-past : (n : ℕ) → rows_before counts (suc (suc (suc (suc (suc n))))) ≡ count_of_rows counts
+  unfolding rows_before count_in count_of_rows
   before-past zero = omega arith
-  before-past (suc n) = omega (arith, before-past n, none-past (suc (suc (suc (suc (suc n))))) (omega arith))
+  before-past (suc n) = omega (arith, before-past n, none_past (suc (suc (suc (suc (suc n))))) (omega arith))
 
-  pub before-all : (class : ℕ) → 5 ≤ class → rowsBefore counts class ≡ rowCount counts
+  pub before-all : (class : ℕ) → 5 ≤ class → rows_before counts class ≡ count_of_rows counts
   before-all class h =
       let past : class ≡ suc (suc (suc (suc (suc (class - 5))))) = omega arith in
-      ap (rowsBefore counts) past ∙ before-past (class - 5)
+      ap (rows_before counts) past ∙ before-past (class - 5)
 
   -- the rows up to a class's end are rows of the book
-  pub before-within : (class : ℕ) → rowsBefore counts class + countIn counts class ≤ rowCount counts
-  unfolding rowsBefore countIn rowCount
+  pub before-within : (class : ℕ) → rows_before counts class + count_in counts class ≤ count_of_rows counts
+  unfolding rows_before count_in count_of_rows
   before-within zero = omega arith
   before-within (suc zero) = omega arith
   before-within (suc (suc zero)) = omega arith
   before-within (suc (suc (suc zero))) = omega arith
   before-within (suc (suc (suc (suc zero)))) = omega arith
-  before-within (suc (suc (suc (suc (suc n))))) = omega (arith, before-past n, none-past (suc (suc (suc (suc (suc n))))) (omega arith))
+  before-within (suc (suc (suc (suc (suc n))))) = omega (arith, before-past n, none_past (suc (suc (suc (suc (suc n))))) (omega arith))
 
   -- no rows before the first class
-  pub before-none : (class : ℕ) → class ≤ 1 → rowsBefore counts class ≡ 0
-  unfolding rowsBefore countIn
+  pub before-none : (class : ℕ) → class ≤ 1 → rows_before counts class ≡ 0
+  unfolding rows_before count_in
   before-none zero h = refl
   before-none (suc zero) h = refl
   before-none (suc (suc class)) h = omega arith
 
   -- the rows of a class end where those of a later one begin, or before
-  before-grows : (class n : ℕ) → rowsBefore counts class ≤ rowsBefore counts (class + n)
-  unfolding rowsBefore
+  before-grows : (class n : ℕ) → rows_before counts class ≤ rows_before counts (class + n)
+  unfolding rows_before
   before-grows class zero = rw (add-zero class) (omega arith)
   before-grows class (suc n) = rw (add-suc class n) (omega (arith, before-grows class n))
 
-  pub rows_apart : (class later : ℕ) → class < later → rowsBefore counts class + countIn counts class ≤ rowsBefore counts later
+  pub rows_apart : (class later : ℕ) → class < later → rows_before counts class + count_in counts class ≤ rows_before counts later
   rows_apart class later h =
       let is : class + 1 + (later - (class + 1)) ≡ later = omega arith in
-      omega (arith, before-next class, before-grows (class + 1) (later - (class + 1)), ap (rowsBefore counts) is)
+      omega (arith, before-next class, before-grows (class + 1) (later - (class + 1)), ap (rows_before counts) is)

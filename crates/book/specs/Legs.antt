@@ -10,14 +10,14 @@ pub record Leg : Type 0 where
   pub row : Row
 
 -- the row of some bytes, in a class (document 01, The book file)
-abbrev pub legOf : ℕ → List ℕ → Leg
-legOf class bytes = record { class = class; row = decode bytes }
+abbrev pub leg_of : ℕ → List ℕ → Leg
+leg_of class bytes = record { class = class; row = decode bytes }
 
 -- all rows of a file, numbered from 0 in this order (document 01, The book file)
-unfoldable pub legsOf : List ℕ → List Leg
-legsOf s = flat_map (λ class. map (legOf class) (rows_of s class)) classes
+unfoldable pub legs_of : List ℕ → List Leg
+legs_of s = flat_map (λ class. map (leg_of class) (rows_of s class)) classes
 
 -- the rows of one class among some legs (document 01, The book file)
-unfoldable pub ofClass : ℕ → List Leg → List Row
-ofClass class [] = []
-ofClass class (leg ∷ legs) = cond (eqb leg.class class) (leg.row ∷ ofClass class legs) (ofClass class legs)
+unfoldable pub of_class : ℕ → List Leg → List Row
+of_class class [] = []
+of_class class (leg ∷ legs) = cond (eqb leg.class class) (leg.row ∷ of_class class legs) (of_class class legs)

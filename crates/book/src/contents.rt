@@ -1,15 +1,15 @@
 // The contents at the head of a file: four row counts, and whether the file is as long as they say.
 ghost use Rattle.std.specs.Prelude.{◌≡◌, ◌≤◌, length};
-ghost use Rattle.book.specs.Counts.{contentsSize, countsOf, countIn, rowsBefore, rowCount};
+ghost use Rattle.book.specs.Counts.{contents_size, counts_of, count_in, rows_before, count_of_rows};
 ghost use Rattle.book.specs.Parts.{start_by};
-ghost use Rattle.book.specs.Refusals.{contentsRefusal};
+ghost use Rattle.book.specs.Refusals.{contents_refusal};
 
 use crate::{CONTENTS_SIZE, Counts, MOST_ROWS, ROW_SIZE, fields};
 
 impl Counts {
     // The rows of a class, 1 to 4; no other number has any.
     pub fn class_rows(self, class: usize) -> u16
-        ensures { result ≡ countIn self class }
+        ensures { result ≡ count_in self class }
     {
         match class {
             1 => self.interest,
@@ -22,7 +22,7 @@ impl Counts {
 
     // The rows of the classes before one: the number of its first row.
     pub fn rows_before(self, class: usize) -> usize
-        ensures { (result ≡ rowsBefore self class) × (result ≤ 262140) }
+        ensures { (result ≡ rows_before self class) × (result ≤ 262140) }
     {
         let to_equity = self.interest as usize;
         let to_exchange = to_equity + (self.equity as usize);
@@ -48,7 +48,7 @@ impl Counts {
 
     // All rows.
     pub fn rows(self) -> usize
-        ensures { (result ≡ rowCount self) × (result ≤ 262140) }
+        ensures { (result ≡ count_of_rows self) × (result ≤ 262140) }
     {
         (self.interest as usize)
             + (self.equity as usize)
@@ -58,8 +58,8 @@ impl Counts {
 }
 
 pub fn counts(book: &[u8]) -> Counts
-    requires { contentsSize ≤ length book.now }
-    ensures { result ≡ countsOf book.now }
+    requires { contents_size ≤ length book.now }
+    ensures { result ≡ counts_of book.now }
 {
     Counts {
         interest: fields::u16_at(book, 0),
@@ -71,7 +71,7 @@ pub fn counts(book: &[u8]) -> Counts
 
 // The first of the refusals 1 to 3 that applies to the contents and the length, or 0.
 pub fn contents_refusal(book: &[u8]) -> u8
-    ensures { result ≡ contentsRefusal book.now }
+    ensures { result ≡ contents_refusal book.now }
 {
     if book.len() < CONTENTS_SIZE {
         return 1;

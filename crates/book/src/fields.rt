@@ -1,10 +1,10 @@
 // Unsigned fields, low byte first.
 ghost use Rattle.std.specs.Prelude.{◌≡◌, ◌+◌, ◌≤◌, length};
-ghost use Rattle.book.specs.Fields.{u16At, u32_at};
+ghost use Rattle.book.specs.Fields.{u16_at, u32_at};
 
 pub fn u16_at(s: &[u8], at: usize) -> u16
     requires { at + 2 ≤ length s.now }
-    ensures { result ≡ u16At s.now at }
+    ensures { result ≡ u16_at s.now at }
 {
     (s[at] as u16) + 256 * (s[at + 1] as u16)
 }

@@ -6,10 +6,10 @@ pub mod rows;
 mod search;
 
 ghost use Rattle.std.specs.Prelude.{◌≡◌, min};
-ghost use Rattle.book.specs.Counts.{bodyBy};
-ghost use Rattle.book.specs.Refusals.{refused, refusalOf};
-ghost use Rattle.book.specs.Inner.Reading.{noCounts, checkedWith, ReadOf};
-ghost use Rattle.book.specs.Parts.{part_of, handedOf};
+ghost use Rattle.book.specs.Counts.{body_by};
+ghost use Rattle.book.specs.Refusals.{refused, refusal_of};
+ghost use Rattle.book.specs.Inner.Reading.{no_counts, checked_with, ReadOf};
+ghost use Rattle.book.specs.Parts.{part_of, handed_of};
 
 // The bytes of the contents, and of a row; the most rows of a book; the last group of a class.
 pub const CONTENTS_SIZE: usize = 8;
@@ -77,7 +77,7 @@ pub fn refused(number: u8, row: u16) -> Refusal
 
 // The refusal of a book: 1, 2, 3, then its rows in file order.
 pub fn check(book: &[u8]) -> Refusal
-    ensures { result ≡ refusalOf book.now }
+    ensures { result ≡ refusal_of book.now }
 {
     let checked = read(book);
     checked.refusal
@@ -97,7 +97,7 @@ pub fn read(book: &[u8]) -> Checked
 
 // No rows in any class.
 pub fn no_counts() -> Counts
-    ensures { result ≡ noCounts }
+    ensures { result ≡ no_counts }
 {
     Counts {
         interest: 0,
@@ -109,7 +109,7 @@ pub fn no_counts() -> Counts
 
 // A refusal with the counts that go with it: none where its number is not 0.
 pub fn checked_with(refusal: Refusal, counts: Counts) -> Checked
-    ensures { result ≡ checkedWith refusal counts }
+    ensures { result ≡ checked_with refusal counts }
 {
     if refusal.number == 0 {
         Checked { refusal, counts }
@@ -124,7 +124,7 @@ pub fn checked_with(refusal: Refusal, counts: Counts) -> Checked
 // The rows of a class, 1 to 4, as a part of the book, by counts that were read before; no other number has any.
 // Of counts that are not the book's own it is cut at the book's end.
 pub fn body(book: &[u8], counts: Counts, class: usize) -> &[u8]
-    ensures { result.now ≡ bodyBy counts book.now class }
+    ensures { result.now ≡ body_by counts book.now class }
 {
     let first = CONTENTS_SIZE + ROW_SIZE * counts.rows_before(class);
     let past = first + ROW_SIZE * (counts.class_rows(class) as usize);
@@ -141,7 +141,7 @@ fn least(a: usize, b: usize) -> usize
 
 // Where the rows of a class, 1 to 4, lie in the book.
 pub fn hand(book: &[u8], class: usize) -> Handed
-    ensures { result ≡ handedOf book.now class }
+    ensures { result ≡ handed_of book.now class }
 {
     let checked = read(book);
     let refusal = checked.refusal;

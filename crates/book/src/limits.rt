@@ -1,6 +1,6 @@
 // What the fields of a row may hold, by its class.
 ghost use Rattle.std.specs.Prelude.{◌≡◌, cond, ◌||◌, ltb};
-ghost use Rattle.book.specs.Refusals.{leastKind, mostKind, mostDays, mostCoupon, floating, groupRefusal, termsRefusal, amountsRefusal, rowRefusal};
+ghost use Rattle.book.specs.Refusals.{least_kind, most_kind, most_days, most_coupon, floating, group_refusal, terms_refusal, amounts_refusal, row_refusal};
 
 use crate::{LAST_GROUP, Row};
 
@@ -13,7 +13,7 @@ const MOST_COUPON: u16 = 10000;
 const MOST_AMOUNT: u32 = 1_000_000_000;
 
 fn least_kind(class: usize) -> u8
-    ensures { result ≡ leastKind class }
+    ensures { result ≡ least_kind class }
 {
     match class {
         1 => 1,
@@ -23,7 +23,7 @@ fn least_kind(class: usize) -> u8
 }
 
 fn most_kind(class: usize) -> u8
-    ensures { result ≡ mostKind class }
+    ensures { result ≡ most_kind class }
 {
     match class {
         1 => 4,
@@ -33,14 +33,14 @@ fn most_kind(class: usize) -> u8
 }
 
 pub fn wrong_kind(class: usize, kind: u8) -> bool
-    ensures { result ≡ (ltb kind (leastKind class) || ltb (mostKind class) kind) }
+    ensures { result ≡ (ltb kind (least_kind class) || ltb (most_kind class) kind) }
 {
     kind < least_kind(class) || most_kind(class) < kind
 }
 
 // 4 or 5, by the group and the kind of a row of a class, or 0.
 pub fn group_refusal(class: usize, row: Row) -> u8
-    ensures { result ≡ groupRefusal class row }
+    ensures { result ≡ group_refusal class row }
 {
     if LAST_GROUP < row.group {
         return 4;
@@ -52,7 +52,7 @@ pub fn group_refusal(class: usize, row: Row) -> u8
 }
 
 pub fn most_days(class: usize) -> u16
-    ensures { result ≡ mostDays class }
+    ensures { result ≡ most_days class }
 {
     match class {
         1 | 4 => MOST_DAYS,
@@ -61,7 +61,7 @@ pub fn most_days(class: usize) -> u16
 }
 
 fn most_coupon(class: usize) -> u16
-    ensures { result ≡ mostCoupon class }
+    ensures { result ≡ most_coupon class }
 {
     match class {
         1 => MOST_COUPON,
@@ -93,7 +93,7 @@ fn number(note: bool, plain: u8) -> u8
 // 6 or 7, by the days and the coupon of a row of a class, or 0; of a floating-rate note 15 in their place, by its days to fixing and to final
 // maturity. The limits are chosen first, and the same three tests follow for every row.
 pub fn terms_refusal(class: usize, row: Row) -> u8
-    ensures { result ≡ termsRefusal class row }
+    ensures { result ≡ terms_refusal class row }
 {
     let note = is_floating(class, row.kind);
     if either(note, MOST_FIXING, most_days(class)) < row.days {
@@ -110,7 +110,7 @@ pub fn terms_refusal(class: usize, row: Row) -> u8
 
 // 8 or 9, by the amounts of a row, or 0; past 8 one of them is zero, so that their sum is the other.
 pub fn amounts_refusal(row: Row) -> u8
-    ensures { result ≡ amountsRefusal row }
+    ensures { result ≡ amounts_refusal row }
 {
     let long = row.long;
     let short = row.short;
@@ -125,7 +125,7 @@ pub fn amounts_refusal(row: Row) -> u8
 
 // The first of the refusals 4 to 9, or 15, that applies to a row of a class, or 0.
 pub fn row_refusal(class: usize, row: Row) -> u8
-    ensures { result ≡ rowRefusal class row }
+    ensures { result ≡ row_refusal class row }
 {
     let of_group = group_refusal(class, row);
     if of_group != 0 {

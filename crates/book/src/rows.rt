@@ -1,15 +1,15 @@
 // The rows of a file, and of a class's part of it.
 ghost use Rattle.std.specs.Prelude.{◌≡◌, ◌+◌, ◌≤◌, length, take, drop};
-ghost use Rattle.book.specs.Counts.{rowSize};
-ghost use Rattle.book.specs.Rows.{rowsIn, decode};
+ghost use Rattle.book.specs.Counts.{row_size};
+ghost use Rattle.book.specs.Rows.{rows_in, decode};
 ghost use Rattle.book.specs.Inner.Reading.{row_of};
 
 use crate::{ROW_SIZE, Row, fields};
 
 // The sixteen bytes at an offset as a row.
 pub fn row_from(s: &[u8], at: usize) -> Row
-    requires { at + rowSize ≤ length s.now }
-    ensures { result ≡ decode (take rowSize (drop at s.now)) }
+    requires { at + row_size ≤ length s.now }
+    ensures { result ≡ decode (take row_size (drop at s.now)) }
 {
     Row {
         group: s[at],
@@ -24,7 +24,7 @@ pub fn row_from(s: &[u8], at: usize) -> Row
 
 // How many whole rows a part has.
 pub fn row_count(part: &[u8]) -> usize
-    ensures { result ≡ length (rowsIn part.now) }
+    ensures { result ≡ length (rows_in part.now) }
 {
     part.len() / ROW_SIZE
 }

@@ -1,16 +1,16 @@
 // The search for the first bad row, in file order.
 ghost use Rattle.std.specs.Prelude.{◌≡◌};
-ghost use Rattle.book.specs.Counts.{countsOf};
-ghost use Rattle.book.specs.Legs.{legsOf};
-ghost use Rattle.book.specs.Refusals.{firstRefusal};
+ghost use Rattle.book.specs.Counts.{counts_of};
+ghost use Rattle.book.specs.Legs.{legs_of};
+ghost use Rattle.book.specs.Refusals.{first_refusal};
 ghost use Rattle.book.specs.Inner.Reading.{Sized};
 
 use crate::{CONTENTS_SIZE, Counts, ROW_SIZE, Refusal, limits, refused, rows};
 
 // The refusal of the first bad row: the search over the classes and their rows leaves with it and with the row.
 pub fn first_refused(book: &[u8], counts: Counts) -> Refusal
-    requires { (counts ≡ countsOf book.now) × Sized book.now }
-    ensures { result ≡ firstRefusal 0 (legsOf book.now) }
+    requires { (counts ≡ counts_of book.now) × Sized book.now }
+    ensures { result ≡ first_refusal 0 (legs_of book.now) }
 {
     let mut class: usize = 1;
     let mut row: usize = 0;

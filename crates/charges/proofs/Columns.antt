@@ -10,34 +10,34 @@ use lib.ListN.{length, get_or, replicate}
 use lib.Dec.{ltb, leb}
 use borrow.Author.Tests.{ltb-true, lt-ltb, le-ltb, leb-true}
 use Rattle.sums.proofs.Cases.{both}
-use Rattle.charges.specs.Bands.{firstBand}
+use Rattle.charges.specs.Bands.{first_band}
 use Rattle.charges.specs.Inner.Columns.{ascending, largest}
 
 -- ---- one entry
 -- past all entries it is the band after them
-pub first-within : (days : ℕ) (column : List ℕ) → firstBand days column ≤ length column
-unfolding firstBand
+pub first-within : (days : ℕ) (column : List ℕ) → first_band days column ≤ length column
+unfolding first_band
 first-within days [] = omega arith
 first-within days (last ∷ column) = go (ltb last days) (first-within days column)
   where
-    go : (test : Bool) → firstBand days column ≤ length column → cond test (suc (firstBand days column)) 0 ≤ suc (length column)
+    go : (test : Bool) → first_band days column ≤ length column → cond test (suc (first_band days column)) 0 ≤ suc (length column)
     go true later = omega arith
     go false later = omega arith
 
 -- an entry that is not below the days
-pub first_by : (days : ℕ) (column : List ℕ) (i : ℕ) → days ≤ get_or column i 0 → firstBand days column ≤ i
-unfolding firstBand
+pub first_by : (days : ℕ) (column : List ℕ) (i : ℕ) → days ≤ get_or column i 0 → first_band days column ≤ i
+unfolding first_band
 first_by days [] i h = omega arith
 first_by days (last ∷ column) zero h = rw (le-ltb last days h) (omega arith)
 first_by days (last ∷ column) (suc i) h = go (ltb last days) (first_by days column i h)
   where
-    go : (test : Bool) → firstBand days column ≤ i → cond test (suc (firstBand days column)) 0 ≤ suc i
+    go : (test : Bool) → first_band days column ≤ i → cond test (suc (first_band days column)) 0 ≤ suc i
     go true later = omega arith
     go false later = omega arith
 
 -- an entry of an ascending column that is below the days: so are all before it
-pub first_past : (days : ℕ) (column : List ℕ) → ascending column ≡ true → (i : ℕ) → i < length column → get_or column i 0 < days → i < firstBand days column
-unfolding firstBand ascending
+pub first_past : (days : ℕ) (column : List ℕ) → ascending column ≡ true → (i : ℕ) → i < length column → get_or column i 0 < days → i < first_band days column
+unfolding first_band ascending
 first_past days [] up i within h = let never : ⊥ = omega arith in absurd never
 first_past days (last ∷ column) up zero within h = rw (lt-ltb last days h) (omega arith)
 first_past days (last ∷ []) up (suc i) within h = let never : ⊥ = omega arith in absurd never
@@ -56,9 +56,9 @@ first_past days (last ∷ (next ∷ column)) up (suc i) within h =
 
 -- ---- three entries, equally far apart
 -- a test counts once at most
-pub counts-once : (test : Bool) → bool_byte test ≤ 1
-counts-once true = omega arith
-counts-once false = omega arith
+pub counts_once : (test : Bool) → bool_byte test ≤ 1
+counts_once true = omega arith
+counts_once false = omega arith
 
 -- what a test at a place tells of the first band
 pub record Told (band place : ℕ) (test : Bool) : Type 0 where
@@ -66,21 +66,21 @@ pub record Told (band place : ℕ) (test : Bool) : Type 0 where
   pub by : test ≡ false → band ≤ place
 
 -- the tests that hold say between which two of the places the band is
-pub three-told : (apart place band : ℕ) (a b c : Bool) → place < band + apart → band ≤ place + 3 * apart
+pub three_told : (apart place band : ℕ) (a b c : Bool) → place < band + apart → band ≤ place + 3 * apart
     → Told band place a → Told band (place + apart) b → Told band (place + 2 * apart) c
     → (place + apart * (bool_byte a + bool_byte b + bool_byte c) < band + apart) × (band ≤ place + apart * (bool_byte a + bool_byte b + bool_byte c))
-three-told apart place band true true true low high p q r = omega (arith, r.past refl)
-three-told apart place band true true false low high p q r = omega (arith, q.past refl, r.by refl)
-three-told apart place band true false true low high p q r = omega (arith, q.by refl, r.past refl)
-three-told apart place band true false false low high p q r = omega (arith, p.past refl, q.by refl)
-three-told apart place band false true true low high p q r = omega (arith, p.by refl, q.past refl)
-three-told apart place band false true false low high p q r = omega (arith, p.by refl, q.past refl)
-three-told apart place band false false true low high p q r = omega (arith, p.by refl, r.past refl)
-three-told apart place band false false false low high p q r = omega (arith, p.by refl)
+three_told apart place band true true true low high p q r = omega (arith, r.past refl)
+three_told apart place band true true false low high p q r = omega (arith, q.past refl, r.by refl)
+three_told apart place band true false true low high p q r = omega (arith, q.by refl, r.past refl)
+three_told apart place band true false false low high p q r = omega (arith, p.past refl, q.by refl)
+three_told apart place band false true true low high p q r = omega (arith, p.by refl, q.past refl)
+three_told apart place band false true false low high p q r = omega (arith, p.by refl, q.past refl)
+three_told apart place band false false true low high p q r = omega (arith, p.by refl, r.past refl)
+three_told apart place band false false false low high p q r = omega (arith, p.by refl)
 
 -- ---- filled up with the largest number of two bytes
-pub first-filled : (days : ℕ) → days ≤ largest → (column : List ℕ) (more : ℕ) → firstBand days (column ++ replicate more largest) ≡ firstBand days column
-unfolding firstBand
+pub first-filled : (days : ℕ) → days ≤ largest → (column : List ℕ) (more : ℕ) → first_band days (column ++ replicate more largest) ≡ first_band days column
+unfolding first_band
 first-filled days h [] zero = refl
 first-filled days h [] (suc more) = rw (le-ltb largest days h)
 first-filled days h (last ∷ column) more = ap (λ (band : ℕ). cond (ltb last days) (suc band) 0) (first-filled days h column more)

@@ -7,75 +7,75 @@ use native.Mathlib.Omega.{arith}
 use lib.ListN.{length}
 use Rattle.sums.specs.Sums.{sum_of}
 use Rattle.sums.specs.Every.{Every}
-use Rattle.sums.proofs.Every.{every-bound}
-use Rattle.sums.proofs.Sums.{sumOf-append, sumOf-map}
+use Rattle.sums.proofs.Every.{every_bound}
+use Rattle.sums.proofs.Sums.{sum_of_append, sum_of_map}
 use Rattle.book.specs.declared.Row.{Row}
 use Rattle.book.specs.Rows.{rows_of, decode}
-use Rattle.book.specs.Legs.{Leg, legOf, legsOf}
+use Rattle.book.specs.Legs.{Leg, leg_of, legs_of}
 use Rattle.book.specs.Accepted.{Accepted}
-use Rattle.book.proofs.Walking.{class-rows}
-use Rattle.table.specs.Loaded.{table_of, standardBytes}
-use Rattle.table.proofs.Accepting.{standard-accepted, standard-bounds, standard-most}
-use Rattle.charges.specs.Charges.{specificCharge, interestGeneral, equityGeneral, interestRisk, equityRisk}
-use Rattle.charges.specs.Report.{classRows, reportWith, chargedReport, reportOf}
-use Rattle.charges.proofs.Legs.{amounts, specific-within}
-use Rattle.charges.proofs.Rates.{interest-rate, equity-rate, exchange-rate, commodity-rate}
-use Rattle.charges.proofs.Reporting.{accepted-report}
+use Rattle.book.proofs.Walking.{class_rows_lem}
+use Rattle.table.specs.Loaded.{table_of, standard_bytes}
+use Rattle.table.proofs.Accepting.{standard_accepted, standard_bounds, standard_most}
+use Rattle.charges.specs.Charges.{specific_charge, interest_general, equity_general, interest_risk, equity_risk}
+use Rattle.charges.specs.Report.{class_rows, report_with, charged_report, report_of}
+use Rattle.charges.proofs.Legs.{amounts, specific_within}
+use Rattle.charges.proofs.Rates.{interest_rate, equity-rate, exchange_rate, commodity-rate}
+use Rattle.charges.proofs.Reporting.{accepted_report}
 
 -- ---- the rows of a class; foreign exchange and commodities have their rates in Rates
 -- 8% specific, and 12.5% general
-interest-most : (rows : List Row) → specificCharge 1 rows + interestGeneral (table_of standardBytes) rows ≤ 205000 * amounts rows
-unfolding specificCharge
-interest-most rows = omega (arith, specific-within 1 rows, interest-rate (table_of standardBytes) 1250 standard-most standard-bounds.percents rows)
+interest_most : (rows : List Row) → specific_charge 1 rows + interest_general (table_of standard_bytes) rows ≤ 205000 * amounts rows
+unfolding specific_charge
+interest_most rows = omega (arith, specific_within 1 rows, interest_rate (table_of standard_bytes) 1250 standard_most standard_bounds.percents rows)
 
 -- 8% specific, and 8% general
-equity-most : (rows : List Row) → specificCharge 2 rows + equityGeneral rows ≤ 160000 * amounts rows
-unfolding specificCharge
-equity-most rows = omega (arith, specific-within 2 rows, equity-rate rows)
+equity-most : (rows : List Row) → specific_charge 2 rows + equity_general rows ≤ 160000 * amounts rows
+unfolding specific_charge
+equity-most rows = omega (arith, specific_within 2 rows, equity-rate rows)
 
 -- ---- a book
 -- the amount of a leg
-abbrev pub legAmount : Leg → ℕ
-legAmount leg = leg.row.long + leg.row.short
+abbrev pub leg_amount : Leg → ℕ
+leg_amount leg = leg.row.long + leg.row.short
 
 module _ (s : List ℕ) where
-  class-amounts : (class : ℕ) → 1 ≤ class → class ≤ 4 → sum_of legAmount (map (legOf class) (rows_of s class)) ≡ amounts (classRows s class)
+  class_amounts_lem : (class : ℕ) → 1 ≤ class → class ≤ 4 → sum_of leg_amount (map (leg_of class) (rows_of s class)) ≡ amounts (class_rows s class)
   unfolding amounts
-  class-amounts class low high =
-      sumOf-map legAmount (legOf class) (rows_of s class) ∙ sym (ap amounts (class-rows s class low high) ∙ sumOf-map (λ row. row.long + row.short) decode (rows_of s class))
+  class_amounts_lem class low high =
+      sum_of_map leg_amount (leg_of class) (rows_of s class) ∙ sym (ap amounts (class_rows_lem s class low high) ∙ sum_of_map (λ row. row.long + row.short) decode (rows_of s class))
 
-  all-amounts : sum_of legAmount (legsOf s) ≡ amounts (classRows s 1) + amounts (classRows s 2) + amounts (classRows s 3) + amounts (classRows s 4)
-  unfolding legsOf flat_map sum_of
-  all-amounts =
-      simp sumOf-append
+  all_amounts : sum_of leg_amount (legs_of s) ≡ amounts (class_rows s 1) + amounts (class_rows s 2) + amounts (class_rows s 3) + amounts (class_rows s 4)
+  unfolding legs_of flat_map sum_of
+  all_amounts =
+      simp sum_of_append
       (omega (
         arith,
-        class-amounts 1 (omega arith) (omega arith),
-        class-amounts 2 (omega arith) (omega arith),
-        class-amounts 3 (omega arith) (omega arith),
-        class-amounts 4 (omega arith) (omega arith),
+        class_amounts_lem 1 (omega arith) (omega arith),
+        class_amounts_lem 2 (omega arith) (omega arith),
+        class_amounts_lem 3 (omega arith) (omega arith),
+        class_amounts_lem 4 (omega arith) (omega arith),
       ))
 
   module _ (ok : Accepted s) where
     -- no row costs more than other paper of the last band
-    total-most : (reportOf standardBytes s).total ≤ 205000 * sum_of legAmount (legsOf s)
-    unfolding chargedReport reportWith interestRisk equityRisk
+    total-most : (report_of standard_bytes s).total ≤ 205000 * sum_of leg_amount (legs_of s)
+    unfolding charged_report report_with interest_risk equity_risk
     total-most =
-        rw (accepted-report standardBytes s standard-accepted ok)
+        rw (accepted_report standard_bytes s standard_accepted ok)
         (omega (
           arith,
-          all-amounts,
-          interest-most (classRows s 1),
-          equity-most (classRows s 2),
-          exchange-rate (classRows s 3),
-          commodity-rate (classRows s 4),
+          all_amounts,
+          interest_most (class_rows s 1),
+          equity-most (class_rows s 2),
+          exchange_rate (class_rows s 3),
+          commodity-rate (class_rows s 4),
         ))
 
     -- of rows of at most an amount each
-    pub most-each : (most : ℕ) → Every (λ leg. legAmount leg ≤ most) (legsOf s) → (reportOf standardBytes s).total ≤ 205000 * (length (legsOf s) * most)
-    most-each most each = omega (arith, total-most, every-bound legAmount most (λ leg h. h) each)
+    pub most_each : (most : ℕ) → Every (λ leg. leg_amount leg ≤ most) (legs_of s) → (report_of standard_bytes s).total ≤ 205000 * (length (legs_of s) * most)
+    most_each most each = omega (arith, total-most, every_bound leg_amount most (λ leg h. h) each)
 
     -- and no less than its interest rows
-    pub interest-least : specificCharge 1 (classRows s 1) + interestGeneral (table_of standardBytes) (classRows s 1) ≤ (reportOf standardBytes s).total
-    unfolding chargedReport reportWith interestRisk equityRisk
-    interest-least = rw (accepted-report standardBytes s standard-accepted ok) (omega arith)
+    pub interest_least : specific_charge 1 (class_rows s 1) + interest_general (table_of standard_bytes) (class_rows s 1) ≤ (report_of standard_bytes s).total
+    unfolding charged_report report_with interest_risk equity_risk
+    interest_least = rw (accepted_report standard_bytes s standard_accepted ok) (omega arith)

@@ -13,23 +13,23 @@ use Rattle.charges.specs.Inner.Slots.{LegSums}
 use Rattle.charges.specs.Inner.Pass.{Taken, taken_of, passed}
 
 module _ (refusal : Refusal) (legs : List Leg) (taken : Taken) (is : taken ≡ taken_of refusal legs) where
-  pub taken-refusal : taken.refusal ≡ refusal
+  pub taken_refusal : taken.refusal ≡ refusal
   unfolding taken_of
-  taken-refusal = ap (λ (t : Taken). t.refusal) is
+  taken_refusal = ap (λ (t : Taken). t.refusal) is
 
-  pub taken-number : taken.refusal.number ≡ refusal.number
-  taken-number = ap (λ (r : Refusal). r.number) taken-refusal
+  pub taken_number : taken.refusal.number ≡ refusal.number
+  taken_number = ap (λ (r : Refusal). r.number) taken_refusal
 
   module _ (good : taken.refusal.number ≡ 0) where
-    pub none-refused : refusal.number ≡ 0
-    none-refused = sym taken-number ∙ good
+    pub none_refused : refusal.number ≡ 0
+    none_refused = sym taken_number ∙ good
 
     -- each row was taken, and is in the sums
-    pub taken-all : taken.rows ≡ length legs
+    pub taken_all : taken.rows ≡ length legs
     unfolding taken_of
-    taken-all = ap (λ (t : Taken). t.rows) is ∙ simp (eq-eqb _ _ none-refused)
+    taken_all = ap (λ (t : Taken). t.rows) is ∙ simp (eq-eqb _ _ none_refused)
 
-    pub sums-all : {longs shorts specifics rows : List ℕ} → LegSums (passed refusal legs) longs shorts specifics rows → LegSums legs longs shorts specifics rows
+    pub sums_all : {longs shorts specifics rows : List ℕ} → LegSums (passed refusal legs) longs shorts specifics rows → LegSums legs longs shorts specifics rows
     unfolding passed
-    sums-all {longs} {shorts} {specifics} {rows} sums =
-        subst (λ (some : List Leg). LegSums some longs shorts specifics rows) (take_all (length legs) legs (omega arith)) (simp (eq-eqb _ _ none-refused) at sums)
+    sums_all {longs} {shorts} {specifics} {rows} sums =
+        subst (λ (some : List Leg). LegSums some longs shorts specifics rows) (take_all (length legs) legs (omega arith)) (simp (eq-eqb _ _ none_refused) at sums)

@@ -13,78 +13,78 @@ use lib.Seq.{take-suc, split_at}
 use Rattle.sums.specs.Sums.{sum_of}
 use Rattle.sums.specs.Inner.Tables.{tally, placed}
 use Rattle.sums.proofs.Cases.{counted≤}
-use Rattle.sums.proofs.Sums.{sumOf≤}
-use Rattle.sums.proofs.Tables.{placed-none, tally-last, tally-room}
+use Rattle.sums.proofs.Sums.{sum_of≤}
+use Rattle.sums.proofs.Tables.{placed-none, tally_last, tally_room}
 use Rattle.book.specs.declared.Row.{Row}
-use Rattle.book.specs.Rows.{rowsIn, decode}
+use Rattle.book.specs.Rows.{rows_in, decode}
 use Rattle.book.specs.Inner.Reading.{row_of}
-use Rattle.ladder.specs.Rows.{inGroup}
-use Rattle.ladder.specs.Inner.Steps.{bandCount}
-use Rattle.charges.specs.Bands.{bandIn}
+use Rattle.ladder.specs.Rows.{in_group}
+use Rattle.ladder.specs.Inner.Steps.{band_count}
+use Rattle.charges.specs.Bands.{band_in}
 use Rattle.charges.specs.Charges.{reading}
 use Rattle.charges.specs.Inner.Ladders.{GroupSums}
 
 -- the rows of a part, by number
-pub row_at : (part : List ℕ) (i : ℕ) → get_or (map decode (rowsIn part)) i (decode []) ≡ row_of part i
+pub row_at : (part : List ℕ) (i : ℕ) → get_or (map decode (rows_in part)) i (decode []) ≡ row_of part i
 unfolding row_of
-row_at part i = get_or-map decode (rowsIn part) i []
+row_at part i = get_or-map decode (rows_in part) i []
 
 -- ---- one table of n sums, after i rows, and the next row
 module _ {A : Type 0} (index amount : A → ℕ) (n : ℕ) (rows : List A) (i : ℕ) (d row : A) (within : i < length rows) (is_row : row ≡ get_or rows i d) (table : List ℕ)
     (is : table ≡ tally index amount (replicate n 0) (take i rows)) where
-  next-rows : take (i + 1) rows ≡ take i rows ++ (row ∷ [])
-  next-rows = rw (add-one i, is_row) (take-suc rows i d within)
+  next_rows : take (i + 1) rows ≡ take i rows ++ (row ∷ [])
+  next_rows = rw (add-one i, is_row) (take-suc rows i d within)
 
-  pub table-next : placed index amount table row ≡ tally index amount (replicate n 0) (take (i + 1) rows)
-  table-next = rw (next-rows, is) (sym (tally-last index amount (replicate n 0) (take i rows) row))
+  pub table_next : placed index amount table row ≡ tally index amount (replicate n 0) (take (i + 1) rows)
+  table_next = rw (next_rows, is) (sym (tally_last index amount (replicate n 0) (take i rows) row))
 
   -- a row without an amount changes nothing
   pub table_kept : amount row ≡ 0 → table ≡ tally index amount (replicate n 0) (take (i + 1) rows)
-  table_kept nothing = sym (placed-none index amount table row nothing) ∙ table-next
+  table_kept nothing = sym (placed-none index amount table row nothing) ∙ table_next
 
   -- room for the row's amount
-  pub table-room : index row < n → get_or table (index row) 0 + amount row ≤ sum_of amount rows
-  table-room h =
+  pub table_room : index row < n → get_or table (index row) 0 + amount row ≤ sum_of amount rows
+  table_room h =
       let all : take i rows ++ (row ∷ drop (suc i) rows) ≡ rows = rw is_row (sym (split_at rows i d within)) in
-      rw is (rw all at (tally-room index amount n (take i rows) row (drop (suc i) rows) (index row) h))
+      rw is (rw all at (tally_room index amount n (take i rows) row (drop (suc i) rows) (index row) h))
 
 -- ---- the two arrays of a group: a row of the group adds its amounts at its band, a row of another adds nothing
 module _ (class group : ℕ) (rows : List Row) (i : ℕ) (row : Row) (within : i < length rows) (is_row : row ≡ get_or rows i (decode [])) where
   abbrev grouped : (Row → ℕ) → Row → ℕ
-  grouped = inGroup (reading class) group
+  grouped = in_group (reading class) group
 
   abbrev summed : (Row → ℕ) → List ℕ → Type 0
-  summed amount table = table ≡ tally (bandIn class) (grouped amount) (replicate bandCount 0) (take i rows)
+  summed amount table = table ≡ tally (band_in class) (grouped amount) (replicate band_count 0) (take i rows)
 
   own : (amount : Row → ℕ) → row.group ≡ group → grouped amount row ≡ amount row
   own amount e = rw (eq-eqb row.group group e)
 
-  side-next : (amount : Row → ℕ) (table : List ℕ) → summed amount table → row.group ≡ group
-      → placed (bandIn class) amount table row ≡ tally (bandIn class) (grouped amount) (replicate bandCount 0) (take (i + 1) rows)
-  side-next amount table is e =
-      let at = bandIn class row in
+  side_next : (amount : Row → ℕ) (table : List ℕ) → summed amount table → row.group ≡ group
+      → placed (band_in class) amount table row ≡ tally (band_in class) (grouped amount) (replicate band_count 0) (take (i + 1) rows)
+  side_next amount table is e =
+      let at = band_in class row in
       ap (λ (more : ℕ). set table at (get_or table at 0 + more)) (sym (own amount e))
-      ∙ table-next (bandIn class) (grouped amount) bandCount rows i (decode []) row within is_row table is
+      ∙ table_next (band_in class) (grouped amount) band_count rows i (decode []) row within is_row table is
 
-  pub side-room : (amount : Row → ℕ) (table : List ℕ) → summed amount table → row.group ≡ group → bandIn class row < bandCount
-      → get_or table (bandIn class row) 0 + amount row ≤ sum_of amount rows
-  side-room amount table is e h =
+  pub side_room : (amount : Row → ℕ) (table : List ℕ) → summed amount table → row.group ≡ group → band_in class row < band_count
+      → get_or table (band_in class row) 0 + amount row ≤ sum_of amount rows
+  side_room amount table is e h =
       omega (
         arith,
-        table-room (bandIn class) (grouped amount) bandCount rows i (decode []) row within is_row table is h,
+        table_room (band_in class) (grouped amount) band_count rows i (decode []) row within is_row table is h,
         own amount e,
-        sumOf≤ (grouped amount) amount rows (λ r m. counted≤ (eqb r.group group) (amount r)),
+        sum_of≤ (grouped amount) amount rows (λ r m. counted≤ (eqb r.group group) (amount r)),
       )
 
   module _ (longs shorts : List ℕ) (of : GroupSums class group (take i rows) longs shorts) where
-    pub group-next : row.group ≡ group
-        → GroupSums class group (take (i + 1) rows) (placed (bandIn class) (λ r. r.long) longs row) (placed (bandIn class) (λ r. r.short) shorts row)
-    group-next e = record { is-longs = side-next (λ r. r.long) longs of.is-longs e; is-shorts = side-next (λ r. r.short) shorts of.is-shorts e }
+    pub group_next : row.group ≡ group
+        → GroupSums class group (take (i + 1) rows) (placed (band_in class) (λ r. r.long) longs row) (placed (band_in class) (λ r. r.short) shorts row)
+    group_next e = record { is_longs = side_next (λ r. r.long) longs of.is_longs e; is_shorts = side_next (λ r. r.short) shorts of.is_shorts e }
 
-    pub group-kept : (row.group ≡ group → ⊥) → GroupSums class group (take (i + 1) rows) longs shorts
-    group-kept other =
+    pub group_kept : (row.group ≡ group → ⊥) → GroupSums class group (take (i + 1) rows) longs shorts
+    group_kept other =
         let nothing : eqb row.group group ≡ false = ne_eqb row.group group other in
         record {
-          is-longs = table_kept (bandIn class) (grouped (λ r. r.long)) bandCount rows i (decode []) row within is_row longs of.is-longs (rw nothing);
-          is-shorts = table_kept (bandIn class) (grouped (λ r. r.short)) bandCount rows i (decode []) row within is_row shorts of.is-shorts (rw nothing);
+          is_longs = table_kept (band_in class) (grouped (λ r. r.long)) band_count rows i (decode []) row within is_row longs of.is_longs (rw nothing);
+          is_shorts = table_kept (band_in class) (grouped (λ r. r.short)) band_count rows i (decode []) row within is_row shorts of.is_shorts (rw nothing);
         }

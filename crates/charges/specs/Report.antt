@@ -2,26 +2,26 @@
 use Rattle.std.specs.Prelude.{ℕ, ◌+◌, cond, List, ltb, eqb, length, replicate}
 use Rattle.book.specs.declared.Row.{Row}
 use Rattle.book.specs.declared.Refusal.{Refusal}
-use Rattle.book.specs.Legs.{legsOf, ofClass}
-use Rattle.book.specs.Refusals.{lastGroup, refused, refusalOf}
+use Rattle.book.specs.Legs.{legs_of, of_class}
+use Rattle.book.specs.Refusals.{last_group, refused, refusal_of}
 use Rattle.ladder.specs.declared.InterestFigures.{InterestFigures}
 use Rattle.ladder.specs.declared.CommodityFigures.{CommodityFigures}
 use Rattle.ladder.specs.declared.zones.Matches.{Matches}
 use Rattle.ladder.specs.declared.Table.{Table}
-use Rattle.table.specs.Loaded.{tableRefusal, table_of}
-use Rattle.charges.specs.Charges.{Risk, specificCharge, interestGeneral, interestFiguresOf, commodityFiguresOf, interestRisk, equityRisk, exchangeGeneral, commodityGeneral, byCurrency}
+use Rattle.table.specs.Loaded.{table_refusal, table_of}
+use Rattle.charges.specs.Charges.{Risk, specific_charge, interest_general, interest_figures_of, commodity_figures_of, interest_risk, equity_risk, exchange_general, commodity_general, by_currency}
 pub use Rattle.charges.specs.declared.Report.{Report}
 pub use Rattle.charges.specs.declared.InterestLadder.{InterestLadder}
 pub use Rattle.charges.specs.declared.CommodityLadder.{CommodityLadder}
 
 -- the rows of a class of a book (document 01, The book file)
-abbrev pub classRows : List ℕ → ℕ → List Row
-classRows s class = ofClass class (legsOf s)
+abbrev pub class_rows : List ℕ → ℕ → List Row
+class_rows s class = of_class class (legs_of s)
 
 -- ---- the report
 -- six charges: their sum is the total (document 01, The book file); how many rows were taken for them (P4); and the interest charges by currency (P6)
-unfoldable pub reportWith : (interest equity : Risk) (exchange commodity taken : ℕ) (specifics generals : List ℕ) → Report
-reportWith interest equity exchange commodity taken specifics generals =
+unfoldable pub report_with : (interest equity : Risk) (exchange commodity taken : ℕ) (specifics generals : List ℕ) → Report
+report_with interest equity exchange commodity taken specifics generals =
     record {
       refusal = refused 0 0;
       interest = interest;
@@ -35,75 +35,75 @@ reportWith interest equity exchange commodity taken specifics generals =
     }
 
 -- no charge (document 01, Who is told no, and why)
-abbrev pub noRisk : Risk
-noRisk = record { specific = 0; general = 0 }
+abbrev pub no_risk : Risk
+no_risk = record { specific = 0; general = 0 }
 
 -- nor of any currency (P6)
-abbrev pub noCurrency : List ℕ
-noCurrency = replicate (lastGroup + 1) 0
+abbrev pub no_currency : List ℕ
+no_currency = replicate (last_group + 1) 0
 
 -- the report of a refusal: no charge, and no row (document 01, Who is told no, and why; P4; P6)
-unfoldable pub refusedReport : Refusal → Report
-refusedReport refusal =
+unfoldable pub refused_report : Refusal → Report
+refused_report refusal =
     record {
       refusal = refusal;
-      interest = noRisk;
-      equity = noRisk;
+      interest = no_risk;
+      equity = no_risk;
       exchange = 0;
       commodity = 0;
       total = 0;
       taken = 0;
-      specifics = noCurrency;
-      generals = noCurrency;
+      specifics = no_currency;
+      generals = no_currency;
     }
 
 -- the report of an accepted book, by a table: each of its rows is taken (document 01, The book file; P4; P6)
-unfoldable pub chargedReport : Table → List ℕ → Report
-chargedReport table s =
-    reportWith
-    (interestRisk table (classRows s 1))
-    (equityRisk (classRows s 2))
-    (exchangeGeneral (classRows s 3))
-    (commodityGeneral (classRows s 4))
-    (length (legsOf s))
-    (byCurrency (specificCharge 1) (classRows s 1))
-    (byCurrency (interestGeneral table) (classRows s 1))
+unfoldable pub charged_report : Table → List ℕ → Report
+charged_report table s =
+    report_with
+    (interest_risk table (class_rows s 1))
+    (equity_risk (class_rows s 2))
+    (exchange_general (class_rows s 3))
+    (commodity_general (class_rows s 4))
+    (length (legs_of s))
+    (by_currency (specific_charge 1) (class_rows s 1))
+    (by_currency (interest_general table) (class_rows s 1))
 
 -- what is refused first, or else what comes after it (document 01, Who is told no, and why)
 unfoldable pub before : ℕ → Refusal → Refusal
 before number refusal = cond (eqb number 0) refusal (refused number 0)
 
 -- the report of any bytes, by a table of any bytes: 18 and 19 come before the book is looked at (document 01, Who is told no, and why; P10)
-unfoldable pub reportOf : (table s : List ℕ) → Report
-reportOf table s =
-    let refusal = before (tableRefusal table) (refusalOf s) in
-    cond (eqb refusal.number 0) (chargedReport (table_of table) s) (refusedReport refusal)
+unfoldable pub report_of : (table s : List ℕ) → Report
+report_of table s =
+    let refusal = before (table_refusal table) (refusal_of s) in
+    cond (eqb refusal.number 0) (charged_report (table_of table) s) (refused_report refusal)
 
 -- ---- the ladder calls
 -- 10 comes first, then what else the call refuses (document 01, Who is told no, and why)
-unfoldable pub ladderRefusal : Refusal → ℕ → Refusal
-ladderRefusal refusal group = cond (ltb lastGroup group) (refused 10 0) refusal
+unfoldable pub ladder_refusal : Refusal → ℕ → Refusal
+ladder_refusal refusal group = cond (ltb last_group group) (refused 10 0) refusal
 
 -- no figure of a ladder (document 01, Who is told no, and why)
-abbrev pub noMatches : Matches
-noMatches = record { gross = 0; vertical = 0; zone1 = 0; zone2 = 0; zone3 = 0; zones12 = 0; zones23 = 0; zones13 = 0; residual = 0 }
+abbrev pub no_matches : Matches
+no_matches = record { gross = 0; vertical = 0; zone1 = 0; zone2 = 0; zone3 = 0; zones12 = 0; zones23 = 0; zones13 = 0; residual = 0 }
 
 -- of a currency (document 01, Who is told no, and why)
-abbrev pub noInterest : InterestFigures
-noInterest = record { matches = noMatches; charge = 0 }
+abbrev pub no_interest : InterestFigures
+no_interest = record { matches = no_matches; charge = 0 }
 
 -- of a commodity (document 01, Who is told no, and why)
-abbrev pub noCommodity : CommodityFigures
-noCommodity = record { matches = 0; carried = 0; residual = 0; charge = 0 }
+abbrev pub no_commodity : CommodityFigures
+no_commodity = record { matches = 0; carried = 0; residual = 0; charge = 0 }
 
 -- the interest ladder of a currency, in weighted positions, by a table (document 01, Interest: bands and zones; P10)
-unfoldable pub interestLadderOf : (table s : List ℕ) → ℕ → InterestLadder
-interestLadderOf table s group =
-    let refusal = ladderRefusal (before (tableRefusal table) (refusalOf s)) group in
-    record { refusal = refusal; figures = cond (eqb refusal.number 0) (interestFiguresOf (table_of table) group (classRows s 1)) noInterest }
+unfoldable pub interest_ladder_of : (table s : List ℕ) → ℕ → InterestLadder
+interest_ladder_of table s group =
+    let refusal = ladder_refusal (before (table_refusal table) (refusal_of s)) group in
+    record { refusal = refusal; figures = cond (eqb refusal.number 0) (interest_figures_of (table_of table) group (class_rows s 1)) no_interest }
 
 -- the ladder of a commodity, in amount units (document 01, The commodities ladder)
-unfoldable pub commodityLadderOf : List ℕ → ℕ → CommodityLadder
-commodityLadderOf s group =
-    let refusal = ladderRefusal (refusalOf s) group in
-    record { refusal = refusal; figures = cond (eqb refusal.number 0) (commodityFiguresOf group (classRows s 4)) noCommodity }
+unfoldable pub commodity_ladder_of : List ℕ → ℕ → CommodityLadder
+commodity_ladder_of s group =
+    let refusal = ladder_refusal (refusal_of s) group in
+    record { refusal = refusal; figures = cond (eqb refusal.number 0) (commodity_figures_of group (class_rows s 4)) no_commodity }

@@ -1,11 +1,11 @@
 // A row that passed, added to the sums of its class.
 ghost use Rattle.std.specs.Prelude.{◌≡◌, ◌+◌, ◌*◌, ◌<◌, ◌≤◌, get_or, set};
 ghost use Rattle.sums.specs.Inner.Tables.{placed};
-ghost use Rattle.book.specs.Refusals.{mostAmount};
+ghost use Rattle.book.specs.Refusals.{most_amount};
 ghost use Rattle.book.specs.Accepted.{Clean};
-ghost use Rattle.charges.specs.Charges.{eightPerCent};
+ghost use Rattle.charges.specs.Charges.{eight_per_cent};
 ghost use Rattle.charges.specs.Inner.Columns.{columns as allColumns};
-ghost use Rattle.charges.specs.Inner.Slots.{slotCount, groupSlots, legWith, legSlot, groupSlot, legLong, legShort, legSpecific, legCounted, Roomy, Room, Added};
+ghost use Rattle.charges.specs.Inner.Slots.{slot_count, group_slots, leg_with, leg_slot, group_slot, leg_long, leg_short, leg_specific, leg_counted, Roomy, Room, Added};
 
 use crate::slots::{COMMODITY, EQUITY, EXCHANGE, GROUP_SLOTS, GROUPS, SLOTS};
 use crate::{bands, weights};
@@ -14,8 +14,8 @@ use ladder::{BANDS, COMMODITY_BANDS};
 
 // A row's amounts, added at a slot.
 fn add_amounts(at: usize, row: Row, longs: &mut [u64; SLOTS], shorts: &mut [u64; SLOTS])
-    requires at_lt_slot_count { (at < slotCount) × (row.long ≤ mostAmount) × (row.short ≤ mostAmount) }
-    requires roomy { Roomy slotCount mostAmount longs.old × Roomy slotCount mostAmount shorts.old }
+    requires at_lt_slot_count { (at < slot_count) × (row.long ≤ most_amount) × (row.short ≤ most_amount) }
+    requires roomy { Roomy slot_count most_amount longs.old × Roomy slot_count most_amount shorts.old }
     ensures longs_after { longs.new ≡ set longs.old at (get_or longs.old at 0 + row.long) }
     ensures shorts_after { shorts.new ≡ set shorts.old at (get_or shorts.old at 0 + row.short) }
 {
@@ -34,7 +34,7 @@ pub fn add_interest(
 )
     requires clean { Clean 1 row × (columns.now ≡ allColumns) }
     requires room { Room longs.old shorts.old specifics.old rows.old }
-    ensures { Added (legWith 1 row) longs.old shorts.old specifics.old rows.old longs.new shorts.new specifics.new rows.new }
+    ensures { Added (leg_with 1 row) longs.old shorts.old specifics.old rows.old longs.new shorts.new specifics.new rows.new }
 {
     let group = row.group as usize;
     let band = bands::interest_band(row, columns);
@@ -51,8 +51,8 @@ pub fn add_equity(
     specifics: &mut [u64; GROUP_SLOTS],
 )
     requires clean { Clean 2 row }
-    requires roomy { Roomy slotCount mostAmount longs.old × Roomy slotCount mostAmount shorts.old × Roomy groupSlots (eightPerCent * mostAmount) specifics.old }
-    ensures { (longs.new ≡ placed legSlot legLong longs.old (legWith 2 row)) × (shorts.new ≡ placed legSlot legShort shorts.old (legWith 2 row)) × (specifics.new ≡ placed groupSlot legSpecific specifics.old (legWith 2 row)) }
+    requires roomy { Roomy slot_count most_amount longs.old × Roomy slot_count most_amount shorts.old × Roomy group_slots (eight_per_cent * most_amount) specifics.old }
+    ensures { (longs.new ≡ placed leg_slot leg_long longs.old (leg_with 2 row)) × (shorts.new ≡ placed leg_slot leg_short shorts.old (leg_with 2 row)) × (specifics.new ≡ placed group_slot leg_specific specifics.old (leg_with 2 row)) }
 {
     let group = row.group as usize;
     add_amounts(EQUITY + group, row, longs, shorts);
@@ -62,8 +62,8 @@ pub fn add_equity(
 // A foreign exchange row: its amounts at its currency.
 pub fn add_exchange(row: Row, longs: &mut [u64; SLOTS], shorts: &mut [u64; SLOTS])
     requires clean { Clean 3 row }
-    requires roomy { Roomy slotCount mostAmount longs.old × Roomy slotCount mostAmount shorts.old }
-    ensures { (longs.new ≡ placed legSlot legLong longs.old (legWith 3 row)) × (shorts.new ≡ placed legSlot legShort shorts.old (legWith 3 row)) }
+    requires roomy { Roomy slot_count most_amount longs.old × Roomy slot_count most_amount shorts.old }
+    ensures { (longs.new ≡ placed leg_slot leg_long longs.old (leg_with 3 row)) × (shorts.new ≡ placed leg_slot leg_short shorts.old (leg_with 3 row)) }
 {
     add_amounts(EXCHANGE + (row.group as usize), row, longs, shorts);
 }
@@ -77,8 +77,8 @@ pub fn add_commodity(
     rows: &mut [u16; GROUP_SLOTS],
 )
     requires clean { Clean 4 row × (columns.now ≡ allColumns) }
-    requires roomy { Roomy slotCount mostAmount longs.old × Roomy slotCount mostAmount shorts.old × Roomy groupSlots 1 rows.old }
-    ensures { (longs.new ≡ placed legSlot legLong longs.old (legWith 4 row)) × (shorts.new ≡ placed legSlot legShort shorts.old (legWith 4 row)) × (rows.new ≡ placed groupSlot legCounted rows.old (legWith 4 row)) }
+    requires roomy { Roomy slot_count most_amount longs.old × Roomy slot_count most_amount shorts.old × Roomy group_slots 1 rows.old }
+    ensures { (longs.new ≡ placed leg_slot leg_long longs.old (leg_with 4 row)) × (shorts.new ≡ placed leg_slot leg_short shorts.old (leg_with 4 row)) × (rows.new ≡ placed group_slot leg_counted rows.old (leg_with 4 row)) }
 {
     let group = row.group as usize;
     let band = bands::commodity_band(row, columns);

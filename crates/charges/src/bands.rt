@@ -1,9 +1,9 @@
 // The bands of rows: the last days of the bands, column by column.
 ghost use Rattle.std.specs.Prelude.{◌≡◌, true, ◌+◌, ◌<◌, ◌≤◌, length, get_or};
-ghost use Rattle.ladder.specs.Commodity.{commodityBandCount};
-ghost use Rattle.ladder.specs.Inner.Steps.{bandCount};
-ghost use Rattle.charges.specs.Bands.{firstBand, lowCoupon, interestBand, commodityBand, bandIn};
-ghost use Rattle.charges.specs.Inner.Columns.{ascending, columnSize, columns as allColumns, columnFrom};
+ghost use Rattle.ladder.specs.Commodity.{commodity_band_count};
+ghost use Rattle.ladder.specs.Inner.Steps.{band_count};
+ghost use Rattle.charges.specs.Bands.{first_band, low_coupon, interest_band, commodity_band, band_in};
+ghost use Rattle.charges.specs.Inner.Columns.{ascending, column_size, columns as allColumns, column_from};
 
 use book::Row;
 use ladder::BANDS;
@@ -24,9 +24,9 @@ pub const COLUMNS: [u16; PLACES] = [
 // The first band whose last day is not below the days, in the column from a place on: the quarter of the column that it is in, and where
 // in the quarter it is. No branch depends on the days.
 fn first_band(columns: &[u16; PLACES], first: usize, days: u16) -> usize
-    requires columns_len { (length columns.now ≡ 48) × (first + columnSize ≤ 48) }
-    requires columns_value { (ascending (columnFrom first columns.now) ≡ true) × (days ≤ get_or columns.now (first + 15) 0) }
-    ensures { result ≡ firstBand days (columnFrom first columns.now) }
+    requires columns_len { (length columns.now ≡ 48) × (first + column_size ≤ 48) }
+    requires columns_value { (ascending (column_from first columns.now) ≡ true) × (days ≤ get_or columns.now (first + 15) 0) }
+    ensures { result ≡ first_band days (column_from first columns.now) }
 {
     let quarter = ((columns[first + 3] < days) as usize)
         + ((columns[first + 7] < days) as usize)
@@ -40,7 +40,7 @@ fn first_band(columns: &[u16; PLACES], first: usize, days: u16) -> usize
 
 // A coupon below 300; a floating-rate note takes the column of coupon 300.
 fn low_coupon(row: Row) -> bool
-    ensures { result ≡ lowCoupon row }
+    ensures { result ≡ low_coupon row }
 {
     row.kind != 4 && row.coupon < 300
 }
@@ -48,7 +48,7 @@ fn low_coupon(row: Row) -> bool
 // The band of an interest row.
 pub fn interest_band(row: Row, columns: &[u16; PLACES]) -> usize
     requires { columns.now ≡ allColumns }
-    ensures { (result ≡ interestBand row) × (result < bandCount) }
+    ensures { (result ≡ interest_band row) × (result < band_count) }
 {
     first_band(columns, COLUMN * (low_coupon(row) as usize), row.days)
 }
@@ -56,7 +56,7 @@ pub fn interest_band(row: Row, columns: &[u16; PLACES]) -> usize
 // The band of a commodity row.
 pub fn commodity_band(row: Row, columns: &[u16; PLACES]) -> usize
     requires { columns.now ≡ allColumns }
-    ensures { (result ≡ commodityBand row) × (result < commodityBandCount) }
+    ensures { (result ≡ commodity_band row) × (result < commodity_band_count) }
 {
     first_band(columns, 2 * COLUMN, row.days)
 }
@@ -64,7 +64,7 @@ pub fn commodity_band(row: Row, columns: &[u16; PLACES]) -> usize
 // The band of a row of a class, 0 in a class without bands.
 pub fn band_in(class: usize, row: Row, columns: &[u16; PLACES]) -> usize
     requires { columns.now ≡ allColumns }
-    ensures { (result ≡ bandIn class row) × (result < bandCount) }
+    ensures { (result ≡ band_in class row) × (result < band_count) }
 {
     match class {
         1 => interest_band(row, columns),

@@ -2,13 +2,13 @@
 ghost use Rattle.std.specs.Prelude.{◌≡◌, map, ℕ, ◌+◌, ◌*◌, ◌<◌, ◌≤◌, length, get_or};
 ghost use Rattle.sums.specs.Sums.{sum_of};
 ghost use Rattle.ladder.specs.Position.{gross, total};
-ghost use Rattle.ladder.specs.Interest.{interestFigures};
-ghost use Rattle.ladder.specs.Commodity.{commodityBandCount, commodityFigures};
-ghost use Rattle.ladder.specs.Nets.{absoluteNets, shorthand, simplified};
-ghost use Rattle.ladder.specs.Inner.Steps.{bandCount, TableBounds};
-ghost use Rattle.charges.specs.Charges.{eightPerCent, groups, currencies};
-ghost use Rattle.charges.specs.Inner.Slots.{groupCount, equityFirst, exchangeFirst, slotCount};
-ghost use Rattle.charges.specs.Inner.Tables.{mostGross, tableWith, bandsFrom, grossFrom, weightedFrom, currencyAt, commodityAt, commodityGroups};
+ghost use Rattle.ladder.specs.Interest.{interest_figures};
+ghost use Rattle.ladder.specs.Commodity.{commodity_band_count, commodity_figures};
+ghost use Rattle.ladder.specs.Nets.{absolute_nets, shorthand, simplified};
+ghost use Rattle.ladder.specs.Inner.Steps.{band_count, TableBounds};
+ghost use Rattle.charges.specs.Charges.{eight_per_cent, groups, currencies};
+ghost use Rattle.charges.specs.Inner.Slots.{group_count, equity_first, exchange_first, slot_count};
+ghost use Rattle.charges.specs.Inner.Tables.{most_gross, table_with, bands_from, gross_from, weighted_from, currency_at, commodity_at, commodity_groups};
 
 use crate::slots::{COMMODITY, EQUITY, EXCHANGE, GROUP_SLOTS, GROUPS, SLOTS};
 use crate::tables;
@@ -25,9 +25,9 @@ pub fn interest_figures(
     weights: &[u64; BANDS],
     percents: Percents,
 ) -> InterestFigures
-    requires table_bounds { TableBounds (tableWith weights.now percents) }
-    requires band_count_in_bounds { (first + bandCount ≤ length longs.now) × (first + bandCount ≤ length shorts.now) × (grossFrom bandCount longs.now shorts.now first ≤ mostGross) }
-    ensures { result ≡ interestFigures percents (weightedFrom (tableWith weights.now percents) longs.now shorts.now first) }
+    requires table_bounds { TableBounds (table_with weights.now percents) }
+    requires band_count_in_bounds { (first + band_count ≤ length longs.now) × (first + band_count ≤ length shorts.now) × (gross_from band_count longs.now shorts.now first ≤ most_gross) }
+    ensures { result ≡ interest_figures percents (weighted_from (table_with weights.now percents) longs.now shorts.now first) }
 {
     let weighted_longs = tables::weighted_bands(longs, first, weights);
     let weighted_shorts = tables::weighted_bands(shorts, first, weights);
@@ -42,11 +42,11 @@ pub fn interest_generals(
     weights: &[u64; BANDS],
     percents: Percents,
 ) -> [u64; GROUPS]
-    requires table_bounds { TableBounds (tableWith weights.now percents) }
-    requires longs_len { (length longs.now ≡ slotCount) × (length shorts.now ≡ slotCount) }
-    requires groups_bound { sum_of (λ group. grossFrom bandCount longs.now shorts.now (currencyAt group)) groups ≤ mostGross }
-    requires by_index { (group : ℕ) → group < groupCount → get_or rows.now (0 + group) 0 ≡ 0 → grossFrom bandCount longs.now shorts.now (currencyAt group) ≡ 0 }
-    ensures { result ≡ map (λ group. (interestFigures percents (weightedFrom (tableWith weights.now percents) longs.now shorts.now (currencyAt group))).charge) groups }
+    requires table_bounds { TableBounds (table_with weights.now percents) }
+    requires longs_len { (length longs.now ≡ slot_count) × (length shorts.now ≡ slot_count) }
+    requires groups_bound { sum_of (λ group. gross_from band_count longs.now shorts.now (currency_at group)) groups ≤ most_gross }
+    requires by_index { (group : ℕ) → group < group_count → get_or rows.now (0 + group) 0 ≡ 0 → gross_from band_count longs.now shorts.now (currency_at group) ≡ 0 }
+    ensures { result ≡ map (λ group. (interest_figures percents (weighted_from (table_with weights.now percents) longs.now shorts.now (currency_at group))).charge) groups }
 {
     let used = tables::used_groups(rows, 0);
     let list = used.list;
@@ -63,8 +63,8 @@ pub fn interest_generals(
 
 // The ladder of a commodity, from its first slot on.
 pub fn commodity_figures(longs: &[u64], shorts: &[u64], first: usize) -> CommodityFigures
-    requires { (first + commodityBandCount ≤ length longs.now) × (first + commodityBandCount ≤ length shorts.now) × (grossFrom commodityBandCount longs.now shorts.now first ≤ mostGross) }
-    ensures { result ≡ commodityFigures (bandsFrom longs.now shorts.now first) }
+    requires { (first + commodity_band_count ≤ length longs.now) × (first + commodity_band_count ≤ length shorts.now) × (gross_from commodity_band_count longs.now shorts.now first ≤ most_gross) }
+    ensures { result ≡ commodity_figures (bands_from longs.now shorts.now first) }
 {
     let commodity_longs = tables::commodity_bands(longs, first);
     let commodity_shorts = tables::commodity_bands(shorts, first);
@@ -77,10 +77,10 @@ pub fn commodity_general(
     shorts: &[u64; SLOTS],
     rows: &[u16; GROUP_SLOTS],
 ) -> u64
-    requires longs_len { (length longs.now ≡ slotCount) × (length shorts.now ≡ slotCount) }
-    requires groups_bound { sum_of (λ group. grossFrom commodityBandCount longs.now shorts.now (commodityAt group)) groups ≤ mostGross }
-    requires by_index { (group : ℕ) → group < groupCount → get_or rows.now (96 + group) 0 ≡ 0 → grossFrom commodityBandCount longs.now shorts.now (commodityAt group) ≡ 0 }
-    ensures { result ≡ sum_of (λ group. (commodityFigures (bandsFrom longs.now shorts.now (commodityAt group))).charge) groups }
+    requires longs_len { (length longs.now ≡ slot_count) × (length shorts.now ≡ slot_count) }
+    requires groups_bound { sum_of (λ group. gross_from commodity_band_count longs.now shorts.now (commodity_at group)) groups ≤ most_gross }
+    requires by_index { (group : ℕ) → group < group_count → get_or rows.now (96 + group) 0 ≡ 0 → gross_from commodity_band_count longs.now shorts.now (commodity_at group) ≡ 0 }
+    ensures { result ≡ sum_of (λ group. (commodity_figures (bands_from longs.now shorts.now (commodity_at group))).charge) groups }
 {
     let used = tables::used_groups(rows, 3 * GROUPS);
     let list = used.list;
@@ -96,8 +96,8 @@ pub fn commodity_general(
 
 // 8% of the absolute nets of the markets.
 pub fn equity_general(longs: &[u64; SLOTS], shorts: &[u64; SLOTS]) -> u64
-    requires { (length longs.now ≡ slotCount) × (length shorts.now ≡ slotCount) × (grossFrom groupCount longs.now shorts.now equityFirst ≤ mostGross) }
-    ensures { result ≡ eightPerCent * absoluteNets groups (bandsFrom longs.now shorts.now equityFirst) }
+    requires { (length longs.now ≡ slot_count) × (length shorts.now ≡ slot_count) × (gross_from group_count longs.now shorts.now equity_first ≤ most_gross) }
+    ensures { result ≡ eight_per_cent * absolute_nets groups (bands_from longs.now shorts.now equity_first) }
 {
     let all_longs = &longs[..];
     let all_shorts = &shorts[..];
@@ -108,8 +108,8 @@ pub fn equity_general(longs: &[u64; SLOTS], shorts: &[u64; SLOTS]) -> u64
 
 // 8% of the shorthand net of the currencies, with gold.
 pub fn exchange_general(longs: &[u64; SLOTS], shorts: &[u64; SLOTS]) -> u64
-    requires { (length longs.now ≡ slotCount) × (length shorts.now ≡ slotCount) × (grossFrom groupCount longs.now shorts.now exchangeFirst ≤ mostGross) }
-    ensures { result ≡ eightPerCent * shorthand currencies (bandsFrom longs.now shorts.now exchangeFirst) }
+    requires { (length longs.now ≡ slot_count) × (length shorts.now ≡ slot_count) × (gross_from group_count longs.now shorts.now exchange_first ≤ most_gross) }
+    ensures { result ≡ eight_per_cent * shorthand currencies (bands_from longs.now shorts.now exchange_first) }
 {
     let all_longs = &longs[..];
     let all_shorts = &shorts[..];
@@ -120,9 +120,9 @@ pub fn exchange_general(longs: &[u64; SLOTS], shorts: &[u64; SLOTS]) -> u64
 
 // The simplified charge of all commodities.
 pub fn commodity_simplified(longs: &[u64; SLOTS], shorts: &[u64; SLOTS]) -> u64
-    requires longs_len { (length longs.now ≡ slotCount) × (length shorts.now ≡ slotCount) }
-    requires groups_bound { gross (total (commodityGroups longs.now shorts.now) groups) ≤ mostGross }
-    ensures { result ≡ simplified groups (commodityGroups longs.now shorts.now) }
+    requires longs_len { (length longs.now ≡ slot_count) × (length shorts.now ≡ slot_count) }
+    requires groups_bound { gross (total (commodity_groups longs.now shorts.now) groups) ≤ most_gross }
+    ensures { result ≡ simplified groups (commodity_groups longs.now shorts.now) }
 {
     let commodity_longs = tables::commodity_sums(longs);
     let commodity_shorts = tables::commodity_sums(shorts);

@@ -1,8 +1,8 @@
 // One group of a class for its ladder call: its sums, and the figures of a refused call.
 ghost use Rattle.std.specs.Prelude.{◌≡◌, replicate};
-ghost use Rattle.book.specs.Inner.Reading.{partRows};
-ghost use Rattle.ladder.specs.Inner.Steps.{bandCount};
-ghost use Rattle.charges.specs.Report.{noInterest, noCommodity};
+ghost use Rattle.book.specs.Inner.Reading.{part_rows};
+ghost use Rattle.ladder.specs.Inner.Steps.{band_count};
+ghost use Rattle.charges.specs.Report.{no_interest, no_commodity};
 ghost use Rattle.charges.specs.Inner.Ladders.{CleanPart, GroupSums};
 
 use crate::bands;
@@ -18,8 +18,8 @@ pub fn tally(
     shorts: &mut [u64; BANDS],
 )
     requires clean_part { CleanPart class part.now }
-    requires longs_value { (longs.old ≡ replicate bandCount 0) × (shorts.old ≡ replicate bandCount 0) }
-    ensures { GroupSums class group (partRows part.now) longs.new shorts.new }
+    requires longs_value { (longs.old ≡ replicate band_count 0) × (shorts.old ≡ replicate band_count 0) }
+    ensures { GroupSums class group (part_rows part.now) longs.new shorts.new }
 {
     let columns = bands::COLUMNS;
     let rows = book::rows::row_count(part);
@@ -37,7 +37,7 @@ pub fn tally(
 
 // The figures of a refused call.
 pub fn no_interest() -> InterestFigures
-    ensures { result ≡ noInterest }
+    ensures { result ≡ no_interest }
 {
     let matches = Matches {
         gross: 0,
@@ -54,7 +54,7 @@ pub fn no_interest() -> InterestFigures
 }
 
 pub fn no_commodity() -> CommodityFigures
-    ensures { result ≡ noCommodity }
+    ensures { result ≡ no_commodity }
 {
     CommodityFigures {
         matches: 0,

@@ -10,9 +10,9 @@ pub mod tables;
 mod weights;
 
 ghost use Rattle.std.specs.Prelude.{◌≡◌, ◌+◌, ◌≤◌};
-ghost use Rattle.charges.specs.Report.{reportOf, interestLadderOf, commodityLadderOf};
-ghost use Rattle.charges.specs.SmallBank.{smallWith, smallBankOf};
-ghost use Rattle.charges.specs.Inner.Answers.{mostTotal, LadderRead, LadderSumsOf};
+ghost use Rattle.charges.specs.Report.{report_of, interest_ladder_of, commodity_ladder_of};
+ghost use Rattle.charges.specs.SmallBank.{small_with, small_bank_of};
+ghost use Rattle.charges.specs.Inner.Answers.{most_total, LadderRead, LadderSumsOf};
 
 use crate::slots::{GROUP_SLOTS, GROUPS, SLOTS};
 use book::{Checked, LAST_GROUP, Refusal};
@@ -73,7 +73,7 @@ pub struct SmallBank {
 
 // The report of a book, in one pass over its rows: its six charges and their total, or why it is refused.
 pub fn charge(book: &[u8], table: &[u8]) -> Report
-    ensures { result ≡ reportOf table.now book.now }
+    ensures { result ≡ report_of table.now book.now }
 {
     let loaded = table::load(table);
     if loaded.number != 0 {
@@ -85,7 +85,7 @@ pub fn charge(book: &[u8], table: &[u8]) -> Report
 
 // The interest ladder of a currency, or why there is none.
 pub fn interest_ladder(book: &[u8], table: &[u8], group: usize) -> InterestLadder
-    ensures { result ≡ interestLadderOf table.now book.now group }
+    ensures { result ≡ interest_ladder_of table.now book.now group }
 {
     let read = table::load(table);
     let sums = ladder_sums(book, 1, read.number, group);
@@ -109,7 +109,7 @@ pub fn interest_ladder(book: &[u8], table: &[u8], group: usize) -> InterestLadde
 
 // The ladder of a commodity, or why there is none.
 pub fn commodity_ladder(book: &[u8], group: usize) -> CommodityLadder
-    ensures { result ≡ commodityLadderOf book.now group }
+    ensures { result ≡ commodity_ladder_of book.now group }
 {
     let sums = ladder_sums(book, 4, 0, group);
     let refusal = sums.refusal;
@@ -150,7 +150,7 @@ pub fn ladder_sums(book: &[u8], class: usize, wrong: u8, group: usize) -> Ladder
 
 // The figures of a bank with foreign exchange and commodities alone, in one pass over its rows, or why its book is refused.
 pub fn small_bank(book: &[u8]) -> SmallBank
-    ensures { result ≡ smallBankOf book.now }
+    ensures { result ≡ small_bank_of book.now }
 {
     let mut longs = [0u64; SLOTS];
     let mut shorts = [0u64; SLOTS];
@@ -168,8 +168,8 @@ pub fn small_bank(book: &[u8]) -> SmallBank
 
 // Two charges and their total.
 fn small_with(refusal: Refusal, exchange: u64, commodity: u64) -> SmallBank
-    requires { exchange + commodity ≤ mostTotal }
-    ensures { result ≡ smallWith refusal exchange commodity }
+    requires { exchange + commodity ≤ most_total }
+    ensures { result ≡ small_with refusal exchange commodity }
 {
     SmallBank {
         refusal,

@@ -1,13 +1,13 @@
 // One pass over the rows of a book: each is decoded once, and refused or added to the sums there and then.
 ghost use Rattle.std.specs.Prelude.{◌≡◌, ◌≤◌};
-ghost use Rattle.book.specs.Counts.{countsOf};
-ghost use Rattle.book.specs.Legs.{legsOf};
-ghost use Rattle.book.specs.Refusals.{contentsRefusal, firstRefusal, refusalOf};
+ghost use Rattle.book.specs.Counts.{counts_of};
+ghost use Rattle.book.specs.Legs.{legs_of};
+ghost use Rattle.book.specs.Refusals.{contents_refusal, first_refusal, refusal_of};
 ghost use Rattle.book.specs.Inner.Reading.{Sized};
-ghost use Rattle.charges.specs.SmallBank.{smallNumber, smallRefusal};
+ghost use Rattle.charges.specs.SmallBank.{small_number, small_refusal};
 ghost use Rattle.charges.specs.Inner.Columns.{columns as allColumns};
-ghost use Rattle.charges.specs.Inner.Slots.{legWith, Clear, Room};
-ghost use Rattle.charges.specs.Inner.Pass.{refusedAt, refusalAfter, Took, PassOf};
+ghost use Rattle.charges.specs.Inner.Slots.{leg_with, Clear, Room};
+ghost use Rattle.charges.specs.Inner.Pass.{refused_at, refusal_after, Took, PassOf};
 
 use crate::slots::{GROUP_SLOTS, SLOTS};
 use crate::{adding, bands};
@@ -29,7 +29,7 @@ pub fn take_book(
     rows: &mut [u16; GROUP_SLOTS],
 ) -> Taken
     requires { Clear longs.old shorts.old specifics.old rows.old }
-    ensures { PassOf (refusalOf book.now) (legsOf book.now) result longs.new shorts.new specifics.new rows.new }
+    ensures { PassOf (refusal_of book.now) (legs_of book.now) result longs.new shorts.new specifics.new rows.new }
 {
     let wrong = book::contents::contents_refusal(book);
     take_after(book, wrong, longs, shorts, specifics, rows)
@@ -44,7 +44,7 @@ pub fn take_small_book(
     rows: &mut [u16; GROUP_SLOTS],
 ) -> Taken
     requires { Clear longs.old shorts.old specifics.old rows.old }
-    ensures { PassOf (smallRefusal book.now) (legsOf book.now) result longs.new shorts.new specifics.new rows.new }
+    ensures { PassOf (small_refusal book.now) (legs_of book.now) result longs.new shorts.new specifics.new rows.new }
 {
     let wrong = small_number(book);
     take_after(book, wrong, longs, shorts, specifics, rows)
@@ -52,7 +52,7 @@ pub fn take_small_book(
 
 // What is refused before the rows: 1, 2, 3, or 20 where there are rows of interest or equity.
 fn small_number(book: &[u8]) -> u8
-    ensures { result ≡ smallNumber book.now }
+    ensures { result ≡ small_number book.now }
 {
     let contents = book::contents::contents_refusal(book);
     if contents != 0 {
@@ -75,9 +75,9 @@ fn take_after(
     specifics: &mut [u64; GROUP_SLOTS],
     rows: &mut [u16; GROUP_SLOTS],
 ) -> Taken
-    requires book_value { wrong ≡ 0 → contentsRefusal book.now ≡ 0 }
+    requires book_value { wrong ≡ 0 → contents_refusal book.now ≡ 0 }
     requires clear { Clear longs.old shorts.old specifics.old rows.old }
-    ensures { PassOf (refusalAfter wrong (legsOf book.now)) (legsOf book.now) result longs.new shorts.new specifics.new rows.new }
+    ensures { PassOf (refusal_after wrong (legs_of book.now)) (legs_of book.now) result longs.new shorts.new specifics.new rows.new }
 {
     if wrong != 0 {
         return refused_at(wrong, 0);
@@ -96,9 +96,9 @@ fn take_rows(
     specifics: &mut [u64; GROUP_SLOTS],
     rows: &mut [u16; GROUP_SLOTS],
 ) -> Taken
-    requires counts_value { (counts ≡ countsOf book.now) × Sized book.now }
+    requires counts_value { (counts ≡ counts_of book.now) × Sized book.now }
     requires clear { Clear longs.old shorts.old specifics.old rows.old }
-    ensures { PassOf (firstRefusal 0 (legsOf book.now)) (legsOf book.now) result longs.new shorts.new specifics.new rows.new }
+    ensures { PassOf (first_refusal 0 (legs_of book.now)) (legs_of book.now) result longs.new shorts.new specifics.new rows.new }
 {
     let columns = bands::COLUMNS;
     let mut class: usize = 1;
@@ -130,7 +130,7 @@ fn take_rows(
 
 // A refusal at a row: no row counts as taken.
 fn refused_at(number: u8, row: u16) -> Taken
-    ensures { result ≡ refusedAt number row }
+    ensures { result ≡ refused_at number row }
 {
     Taken {
         refusal: book::refused(number, row),
@@ -150,7 +150,7 @@ fn take_row(
 ) -> u8
     requires le_class { (1 ≤ class) × (class ≤ 4) × (columns.now ≡ allColumns) }
     requires room { Room longs.old shorts.old specifics.old rows.old }
-    ensures { Took (legWith class row) result longs.old shorts.old specifics.old rows.old longs.new shorts.new specifics.new rows.new }
+    ensures { Took (leg_with class row) result longs.old shorts.old specifics.old rows.old longs.new shorts.new specifics.new rows.new }
 {
     let bad = book::limits::row_refusal(class, row);
     if bad != 0 {

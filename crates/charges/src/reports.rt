@@ -1,8 +1,8 @@
 // The report of a book by a table that was loaded.
 ghost use Rattle.std.specs.Prelude.{◌≡◌, ◌+◌, ◌≤◌};
 ghost use Rattle.ladder.specs.Inner.Steps.{TableBounds};
-ghost use Rattle.charges.specs.Report.{reportWith, refusedReport};
-ghost use Rattle.charges.specs.Inner.Answers.{mostTotal, reportBy};
+ghost use Rattle.charges.specs.Report.{report_with, refused_report};
+ghost use Rattle.charges.specs.Inner.Answers.{most_total, report_by};
 
 use crate::slots::{GROUP_SLOTS, GROUPS, SLOTS};
 use crate::{Report, Risk, general, pass, tables};
@@ -12,7 +12,7 @@ use ladder::Table;
 // In one pass over the rows: the six charges and their total, or why the book is refused.
 pub fn charge_by(book: &[u8], table: Table) -> Report
     requires { TableBounds table }
-    ensures { result ≡ reportBy table book.now }
+    ensures { result ≡ report_by table book.now }
 {
     let weights = table.weights;
     let percents = table.percents;
@@ -59,8 +59,8 @@ fn charged_report(
     specifics: [u64; GROUPS],
     generals: [u64; GROUPS],
 ) -> Report
-    requires { interest.specific + interest.general + equity.specific + equity.general + exchange + commodity ≤ mostTotal }
-    ensures { result ≡ reportWith interest equity exchange commodity taken specifics generals }
+    requires { interest.specific + interest.general + equity.specific + equity.general + exchange + commodity ≤ most_total }
+    ensures { result ≡ report_with interest equity exchange commodity taken specifics generals }
 {
     let total = interest.specific
         + interest.general
@@ -83,7 +83,7 @@ fn charged_report(
 
 // The report of a refusal.
 pub fn refused_report(refusal: Refusal) -> Report
-    ensures { result ≡ refusedReport refusal }
+    ensures { result ≡ refused_report refusal }
 {
     let none = Risk {
         specific: 0,

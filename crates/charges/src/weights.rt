@@ -1,7 +1,7 @@
 // Specific weights, in basis points.
 ghost use Rattle.std.specs.Prelude.{◌≡◌, cond, ◌||◌, eqb};
-ghost use Rattle.charges.specs.Weights.{qualifyingWeight, interestWeight, equityWeight, specificWeight};
-ghost use Rattle.charges.specs.Charges.{specificOf};
+ghost use Rattle.charges.specs.Weights.{qualifying_weight, interest_weight, equity_weight, specific_weight};
+ghost use Rattle.charges.specs.Charges.{specific_of};
 
 use book::Row;
 
@@ -10,7 +10,7 @@ const BASIS_POINT: u64 = 100;
 
 // Qualifying paper, by its days.
 fn qualifying_weight(days: u16) -> u64
-    ensures { result ≡ qualifyingWeight days }
+    ensures { result ≡ qualifying_weight days }
 {
     match days {
         0..=180 => 25,
@@ -45,7 +45,7 @@ fn is_qualifying(kind: u8) -> bool
 
 // Government, qualifying and other paper, and floating-rate notes. Both weights are found before one is chosen: so no branch depends on the kind.
 fn interest_weight(row: Row) -> u64
-    ensures { result ≡ interestWeight row }
+    ensures { result ≡ interest_weight row }
 {
     let qualifying = qualifying_weight(maturity(row));
     let fixed = fixed_weight(row.kind);
@@ -58,7 +58,7 @@ fn interest_weight(row: Row) -> u64
 
 // Ordinary shares, liquid and well diversified portfolios, indices.
 fn equity_weight(row: Row) -> u64
-    ensures { result ≡ equityWeight row }
+    ensures { result ≡ equity_weight row }
 {
     let kind = row.kind;
     match kind {
@@ -71,7 +71,7 @@ fn equity_weight(row: Row) -> u64
 
 // The specific weight of a row of a class; foreign exchange and commodities bear none.
 fn specific_weight(class: usize, row: Row) -> u64
-    ensures { result ≡ specificWeight class row }
+    ensures { result ≡ specific_weight class row }
 {
     match class {
         1 => interest_weight(row),
@@ -82,7 +82,7 @@ fn specific_weight(class: usize, row: Row) -> u64
 
 // The specific charge of a row of a class, in mils: 100 a basis point.
 pub fn specific_charge(class: usize, row: Row) -> u64
-    ensures { result ≡ specificOf class row }
+    ensures { result ≡ specific_of class row }
 {
     BASIS_POINT * (specific_weight(class, row) * ((row.long as u64) + (row.short as u64)))
 }

@@ -11,80 +11,80 @@ use lib.Seq.{drop_at}
 use borrow.Author.Tests.{eqb-true, eqb-false, ne_eqb}
 use Rattle.sums.specs.Every.{Every, none, also}
 use Rattle.book.specs.declared.Row.{Row}
-use Rattle.book.specs.Fields.{u16At}
-use Rattle.book.specs.Counts.{contentsSize, rowSize, countsOf, rowCount}
+use Rattle.book.specs.Fields.{u16_at}
+use Rattle.book.specs.Counts.{contents_size, row_size, counts_of, count_of_rows}
 use Rattle.book.specs.Rows.{decode, rows_of}
-use Rattle.book.specs.Refusals.{refusalOf}
+use Rattle.book.specs.Refusals.{refusal_of}
 use Rattle.book.proofs.Faults.{of_row}
 use Rattle.ladder.specs.declared.positions.Position.{Position}
 use Rattle.ladder.specs.Position.{gross, net}
-use Rattle.issues.specs.Issues.{issuesOf, has, holding, placed, nettedFrom}
-use Rattle.layout.specs.Files.{Bytes, bookBy, twoBytes, fourBytes, rowBytes, contentsBytes}
-use Rattle.layout.proofs.Whole.{two_bytes, contents-length}
-use Rattle.layout.proofs.Rows.{book-rows}
-use Rattle.layout.proofs.Own.{own-contents, own-row-at, own-rows}
-use Rattle.charges.specs.Report.{classRows}
-use Rattle.netting.specs.Netted.{nettedClass, nettedBook}
-use Rattle.offsetting.specs.Offset.{offsetBy, offsetBook}
-use Rattle.offsetting.specs.NetOffset.{netOffsetBook}
-use Rattle.shortest.specs.Shortest.{someRow, fileShowing, shortestFile}
-use Rattle.shortest.specs.Inner.Places.{oneIn}
-use Rattle.shortest.proofs.Outcome.{in_some, file-contents, file-row, row_within, has-contents}
-use Rattle.claims.specs.Bytes.{issueIn, Kept, no_rows, stays, netted, dropped, later, NettingBytesHolds, OffsettingBytesHolds, NetOffsetBytesHolds, ShortestBytesHolds}
+use Rattle.issues.specs.Issues.{issues_of, has, holding, placed, netted_from}
+use Rattle.layout.specs.Files.{Bytes, book_by, two_bytes_of, four_bytes_of, row_bytes, contents_bytes}
+use Rattle.layout.proofs.Whole.{two_bytes, contents_length}
+use Rattle.layout.proofs.Rows.{book_rows}
+use Rattle.layout.proofs.Own.{own_contents, own_row_at, own_rows}
+use Rattle.charges.specs.Report.{class_rows}
+use Rattle.netting.specs.Netted.{netted_class, netted_book}
+use Rattle.offsetting.specs.Offset.{offset_by, offset_book}
+use Rattle.offsetting.specs.NetOffset.{net_offset_book}
+use Rattle.shortest.specs.Shortest.{some_row, file_showing, shortest_file}
+use Rattle.shortest.specs.Inner.Places.{one_in}
+use Rattle.shortest.proofs.Outcome.{in_some, file_contents, file_row, row_within, has-contents}
+use Rattle.claims.specs.Bytes.{issue_in, Kept, no_rows, stays, netted, dropped, later, NettingBytesHolds, OffsettingBytesHolds, NetOffsetBytesHolds, ShortestBytesHolds}
 use Rattle.claims.proofs.Writing.{classes-each}
-use Rattle.claims.proofs.Offsetting.{by-class-some}
+use Rattle.claims.proofs.Offsetting.{by_class_some}
 
 -- ---- netting
-issue-bytes : (row : Row) → u16At (rowBytes row) 6 ≡ row.issue
-unfolding u16At rowBytes twoBytes fourBytes
-issue-bytes row = two_bytes row.issue
+issue_bytes : (row : Row) → u16_at (row_bytes row) 6 ≡ row.issue
+unfolding u16_at row_bytes two_bytes_of four_bytes_of
+issue_bytes row = two_bytes row.issue
 
 first-eight : (row : Row) (position : Position)
-    → take 8 (rowBytes (holding row position)) ≡ take 8 (rowBytes row)
-unfolding rowBytes twoBytes fourBytes
+    → take 8 (row_bytes (holding row position)) ≡ take 8 (row_bytes row)
+unfolding row_bytes two_bytes_of four_bytes_of
 first-eight row position = refl
 
-netted-kept : (seen : List ℕ) (rows : List Row)
-    → Kept seen (map rowBytes (nettedFrom seen rows)) (map rowBytes rows)
-unfolding nettedFrom placed
-netted-kept seen [] = no_rows
-netted-kept seen (row ∷ rows) =
+netted_kept : (seen : List ℕ) (rows : List Row)
+    → Kept seen (map row_bytes (netted_from seen rows)) (map row_bytes rows)
+unfolding netted_from placed
+netted_kept seen [] = no_rows
+netted_kept seen (row ∷ rows) =
     go (eqb row.issue 0) refl (has seen row.issue) refl (eqb (gross position) 0)
-    (netted-kept seen rows) (netted-kept (row.issue ∷ seen) rows)
+    (netted_kept seen rows) (netted_kept (row.issue ∷ seen) rows)
   where
     position : Position
-    position = net (issuesOf (row ∷ rows) row.issue)
+    position = net (issues_of (row ∷ rows) row.issue)
 
-    issue : issueIn (rowBytes row) ≡ row.issue
-    issue = issue-bytes row
+    issue : issue_in (row_bytes row) ≡ row.issue
+    issue = issue_bytes row
 
-    numbered : eqb row.issue 0 ≡ false → issueIn (rowBytes row) ≡ 0 → ⊥
+    numbered : eqb row.issue 0 ≡ false → issue_in (row_bytes row) ≡ 0 → ⊥
     numbered e zero-issue = eqb-false _ _ e (sym issue ∙ zero-issue)
 
-    as_read : {old : Bool} → has seen row.issue ≡ old → has seen (issueIn (rowBytes row)) ≡ old
+    as_read : {old : Bool} → has seen row.issue ≡ old → has seen (issue_in (row_bytes row)) ≡ old
     as_read h = rw issue h
 
     rest : {written rows : List (List ℕ)} → Kept (row.issue ∷ seen) written rows
-        → Kept (issueIn (rowBytes row) ∷ seen) written rows
+        → Kept (issue_in (row_bytes row) ∷ seen) written rows
     rest kept = rw issue kept
 
     go : (none : Bool) → eqb row.issue 0 ≡ none → (old : Bool) → has seen row.issue ≡ old
         → (even : Bool)
-        → Kept seen (map rowBytes (nettedFrom seen rows)) (map rowBytes rows)
-        → Kept (row.issue ∷ seen) (map rowBytes (nettedFrom (row.issue ∷ seen) rows)) (map rowBytes rows)
-        → Kept seen (map rowBytes (cond none (row ∷ nettedFrom seen rows) (cond old (nettedFrom seen rows)
-        (cond even (nettedFrom (row.issue ∷ seen) rows) (holding row position ∷ nettedFrom (row.issue ∷ seen) rows)))))
-        (rowBytes row ∷ map rowBytes rows)
+        → Kept seen (map row_bytes (netted_from seen rows)) (map row_bytes rows)
+        → Kept (row.issue ∷ seen) (map row_bytes (netted_from (row.issue ∷ seen) rows)) (map row_bytes rows)
+        → Kept seen (map row_bytes (cond none (row ∷ netted_from seen rows) (cond old (netted_from seen rows)
+        (cond even (netted_from (row.issue ∷ seen) rows) (holding row position ∷ netted_from (row.issue ∷ seen) rows)))))
+        (row_bytes row ∷ map row_bytes rows)
     go true e old h even after more = stays (issue ∙ eqb-true _ _ e) after
     go false e true h even after more = later (numbered e) (as_read h) after
     go false e false h true after more = dropped (numbered e) (as_read h) (rest more)
     go false e false h false after more = netted (numbered e) (as_read h) (first-eight row position) (rest more)
 
-pub netting-bytes : NettingBytesHolds
-unfolding nettedBook
-netting-bytes s every =
+pub netting_bytes : NettingBytesHolds
+unfolding netted_book
+netting_bytes s every =
     classes-each (λ class low high.
-    rw (book-rows (nettedClass s) class low high, ← own-rows every class low high) (netted-kept [] (classRows s class)))
+    rw (book_rows (netted_class s) class low high, ← own_rows every class low high) (netted_kept [] (class_rows s class)))
 
 -- ---- offsetting
 some_mapped : {A B : Type 0} (f : A → B) {some all : List A} → Sublistᴰ some all
@@ -95,60 +95,60 @@ some_mapped f (Sublistᴰ.cons-cons e less) = Sublistᴰ.cons-cons (ap f e) (som
 
 -- the book of the rows of each class, the interest rows offset, beside the rows themselves
 module _ (rows : ℕ → List Row) where
-  offset-interest : Sublistᴰ (rows_of (bookBy (offsetBy rows)) 1) (map rowBytes (rows 1))
-  offset-interest = rw (book-rows (offsetBy rows) 1 (omega arith) (omega arith)) (some_mapped rowBytes (by-class-some rows 1))
+  offset_interest : Sublistᴰ (rows_of (book_by (offset_by rows)) 1) (map row_bytes (rows 1))
+  offset_interest = rw (book_rows (offset_by rows) 1 (omega arith) (omega arith)) (some_mapped row_bytes (by_class_some rows 1))
 
-  offset-others : (class : ℕ) → 2 ≤ class → class ≤ 4
-      → rows_of (bookBy (offsetBy rows)) class ≡ map rowBytes (rows class)
-  unfolding offsetBy
-  offset-others class low high =
-      book-rows (offsetBy rows) class (omega arith) high
+  offset_others : (class : ℕ) → 2 ≤ class → class ≤ 4
+      → rows_of (book_by (offset_by rows)) class ≡ map row_bytes (rows class)
+  unfolding offset_by
+  offset_others class low high =
+      book_rows (offset_by rows) class (omega arith) high
       ∙ rw (ne_eqb class 1 (λ e. omega arith))
 
 -- what holds of each class but the first
-but-interest : {P : ℕ → Type 0} → ((class : ℕ) → 2 ≤ class → class ≤ 4 → P class)
+but_interest : {P : ℕ → Type 0} → ((class : ℕ) → 2 ≤ class → class ≤ 4 → P class)
     → Every P (2 ∷ 3 ∷ 4 ∷ [])
-but-interest each =
+but_interest each =
     also (each 2 (omega arith) (omega arith)) (also (each 3 (omega arith) (omega arith)) (also (each 4 (omega arith) (omega arith)) none))
 
-pub offsetting-bytes : OffsettingBytesHolds
-unfolding offsetBook
-offsetting-bytes s every =
+pub offsetting_bytes : OffsettingBytesHolds
+unfolding offset_book
+offsetting_bytes s every =
     record {
-      interest = rw (← own-rows every 1 (omega arith) (omega arith)) (offset-interest (classRows s));
-      others = but-interest (λ class low high. offset-others (classRows s) class low high ∙ own-rows every class (omega arith) high);
+      interest = rw (← own_rows every 1 (omega arith) (omega arith)) (offset_interest (class_rows s));
+      others = but_interest (λ class low high. offset_others (class_rows s) class low high ∙ own_rows every class (omega arith) high);
     }
 
 -- ---- the one call
-pub net-offset-bytes : NetOffsetBytesHolds
-unfolding netOffsetBook nettedBook
-net-offset-bytes s =
+pub net-offset_bytes : NetOffsetBytesHolds
+unfolding net_offset_book netted_book
+net-offset_bytes s =
     record {
-      interest = rw (book-rows (nettedClass s) 1 (omega arith) (omega arith)) (offset-interest (nettedClass s));
-      others = but-interest (λ class low high.
-          offset-others (nettedClass s) class low high ∙ sym (book-rows (nettedClass s) class (omega arith) high));
+      interest = rw (book_rows (netted_class s) 1 (omega arith) (omega arith)) (offset_interest (netted_class s));
+      others = but_interest (λ class low high.
+          offset_others (netted_class s) class low high ∙ sym (book_rows (netted_class s) class (omega arith) high));
     }
 
 -- ---- the shortest file
 module _ (s : List ℕ) (every : Bytes s) where
-  of-2 : (refusalOf s).number ≡ 2 → shortestFile s ≡ take contentsSize s
-  unfolding shortestFile fileShowing
-  of-2 two = rw two (own-contents every (has-contents s (omega arith)))
+  of-2 : (refusal_of s).number ≡ 2 → shortest_file s ≡ take contents_size s
+  unfolding shortest_file file_showing
+  of-2 two = rw two (own_contents every (has-contents s (omega arith)))
 
-  of-3 : (refusalOf s).number ≡ 3 → (rowCount (countsOf s) ≡ 0 → ⊥)
-      → shortestFile s ≡ take contentsSize s
-  unfolding someRow
+  of-3 : (refusal_of s).number ≡ 3 → (count_of_rows (counts_of s) ≡ 0 → ⊥)
+      → shortest_file s ≡ take contents_size s
+  unfolding some_row
   of-3 three some =
-      file-contents s (omega arith) (omega arith) ∙ rw (ne_eqb (rowCount (countsOf s)) 0 some) (own-contents every (has-contents s (omega arith)))
+      file_contents s (omega arith) (omega arith) ∙ rw (ne_eqb (count_of_rows (counts_of s)) 0 some) (own_contents every (has-contents s (omega arith)))
 
-  of-row-bytes : 4 ≤ (refusalOf s).number
-      → drop contentsSize (shortestFile s) ≡ take rowSize (drop (contentsSize + rowSize * (refusalOf s).row) s)
-  of-row-bytes many =
-      let place = in_some (countsOf s) (refusalOf s).row (row_within s many) in
-      let row = rowBytes (decode (take rowSize (drop (contentsSize + rowSize * (refusalOf s).row) s))) in
-      ap (drop contentsSize) (file-row s many place.class place.there)
-      ∙ drop_at (contentsBytes (oneIn place.class)) row contentsSize (contents-length (oneIn place.class))
-      ∙ own-row-at every (contentsSize + rowSize * (refusalOf s).row) (omega (arith, (of_row s many).sized.sized, row_within s many))
+  of_row_bytes : 4 ≤ (refusal_of s).number
+      → drop contents_size (shortest_file s) ≡ take row_size (drop (contents_size + row_size * (refusal_of s).row) s)
+  of_row_bytes many =
+      let place = in_some (counts_of s) (refusal_of s).row (row_within s many) in
+      let row = row_bytes (decode (take row_size (drop (contents_size + row_size * (refusal_of s).row) s))) in
+      ap (drop contents_size) (file_row s many place.class place.there)
+      ∙ drop_at (contents_bytes (one_in place.class)) row contents_size (contents_length (one_in place.class))
+      ∙ own_row_at every (contents_size + row_size * (refusal_of s).row) (omega (arith, (of_row s many).sized.sized, row_within s many))
 
-pub shortest-bytes : ShortestBytesHolds
-shortest-bytes s every = record { of-2 = of-2 s every; of-3 = of-3 s every; of_row = of-row-bytes s every }
+pub shortest_bytes : ShortestBytesHolds
+shortest_bytes s every = record { of-2 = of-2 s every; of-3 = of-3 s every; of_row = of_row_bytes s every }

@@ -9,24 +9,24 @@ use lib.Dec.{eqb}
 use lib.ListN.{length}
 use borrow.Author.Tests.{eqb-true, eq-eqb}
 use Rattle.sums.specs.Sums.{sum_of}
-use Rattle.sums.proofs.Every.{every-all}
+use Rattle.sums.proofs.Every.{every_all}
 use Rattle.book.specs.declared.Row.{Row}
 use Rattle.book.specs.declared.Refusal.{Refusal}
-use Rattle.book.specs.Counts.{countIn, rowCount}
-use Rattle.book.specs.Legs.{legsOf, ofClass}
+use Rattle.book.specs.Counts.{count_in, count_of_rows}
+use Rattle.book.specs.Legs.{legs_of, of_class}
 use Rattle.book.specs.Accepted.{Accepted}
 use Rattle.book.proofs.Placing.{of_four}
-use Rattle.book.proofs.Walking.{legs-length}
+use Rattle.book.proofs.Walking.{legs_length}
 use Rattle.book.proofs.Acceptance.{accepted}
-use Rattle.layout.specs.Room.{orNext, figureOf}
+use Rattle.layout.specs.Room.{or_next, figure_of}
 use Rattle.issues.specs.Issues.{has}
-use Rattle.issues.specs.Comparing.{comparisonsFrom, comparisons}
+use Rattle.issues.specs.Comparing.{comparisons_from, comparisons}
 use Rattle.issues.proofs.Comparing.{comparisons-from, comparisons-reached}
-use Rattle.book.proofs.ClassRows.{class-size}
-use Rattle.netting.specs.Netted.{issuesRefusal, comparisonsOf, nettingRefusal, nettedAnswer, nettedOf}
-use Rattle.offsetting.specs.NetOffset.{netOffsetRefusal, netOffsetOf}
+use Rattle.book.proofs.ClassRows.{class_size}
+use Rattle.netting.specs.Netted.{issues_refusal, comparisons_of, netting_refusal, netted_answer, netted_of}
+use Rattle.offsetting.specs.NetOffset.{net_offset_refusal, net_offset_of}
 use Rattle.claims.specs.Netting.{ComparingHolds, ReachingHolds}
-use Rattle.claims.proofs.Writing.{neither-refused}
+use Rattle.claims.proofs.Writing.{neither_refused}
 
 -- ---- numbers
 halves : (n compared : ℕ) → 2 * compared + n ≤ n * n → compared ≤ n * (n - 1) / 2
@@ -41,10 +41,10 @@ halved (suc m) compared h =
     let less : suc m - 1 ≡ m = omega arith in
     rw less (omega arith)
 
-none-compared : (rows : List Row) → length rows ≡ 0 → comparisons rows ≡ 0
-unfolding comparisonsFrom
-none-compared [] e = refl
-none-compared (row ∷ rows) e = let never : ⊥ = omega arith in absurd never
+none_compared : (rows : List Row) → length rows ≡ 0 → comparisons rows ≡ 0
+unfolding comparisons_from
+none_compared [] e = refl
+none_compared (row ∷ rows) e = let never : ⊥ = omega arith in absurd never
 
 nothing-kept : (issue : ℕ) → has [] issue ≡ false
 unfolding has
@@ -53,60 +53,60 @@ nothing-kept issue = refl
 -- ---- the four classes of an accepted book
 module _ (s : List ℕ) (ok : Accepted s) where
   abbrev rows : ℕ → List Row
-  rows class = ofClass class (legsOf s)
+  rows class = of_class class (legs_of s)
 
-  four : length (legsOf s) ≡ length (rows 1) + (length (rows 2) + (length (rows 3) + length (rows 4)))
-  unfolding rowCount countIn
+  four : length (legs_of s) ≡ length (rows 1) + (length (rows 2) + (length (rows 3) + length (rows 4)))
+  unfolding count_of_rows count_in
   four =
       omega (
         arith,
-        legs-length s ok.sized,
-        class-size s ok 1 (omega arith) (omega arith),
-        class-size s ok 2 (omega arith) (omega arith),
-        class-size s ok 3 (omega arith) (omega arith),
-        class-size s ok 4 (omega arith) (omega arith),
+        legs_length s ok.sized,
+        class_size s ok 1 (omega arith) (omega arith),
+        class_size s ok 2 (omega arith) (omega arith),
+        class_size s ok 3 (omega arith) (omega arith),
+        class_size s ok 4 (omega arith) (omega arith),
       )
 
-  all-classes : 2 * comparisonsOf s + length (legsOf s) ≤ length (legsOf s) * length (legsOf s)
-  unfolding comparisonsOf sum_of
-  all-classes = rw four (omega (arith, comparisons-from [] (rows 1), comparisons-from [] (rows 2), comparisons-from [] (rows 3), comparisons-from [] (rows 4)))
+  all_classes_lem : 2 * comparisons_of s + length (legs_of s) ≤ length (legs_of s) * length (legs_of s)
+  unfolding comparisons_of sum_of
+  all_classes_lem = rw four (omega (arith, comparisons-from [] (rows 1), comparisons-from [] (rows 2), comparisons-from [] (rows 3), comparisons-from [] (rows 4)))
 
   -- all rows in one class
-  reached : (class : ℕ) → 1 ≤ class → class ≤ 4 → length (rows class) ≡ length (legsOf s) → comparisonsOf s ≡ comparisons (rows class)
-  unfolding comparisonsOf sum_of
+  reached : (class : ℕ) → 1 ≤ class → class ≤ 4 → length (rows class) ≡ length (legs_of s) → comparisons_of s ≡ comparisons (rows class)
+  unfolding comparisons_of sum_of
   reached =
-      of_four (λ class. length (rows class) ≡ length (legsOf s) → comparisonsOf s ≡ comparisons (rows class))
-      (λ all. omega (arith, four, none-compared (rows 2) (omega (arith, four)), none-compared (rows 3) (omega (arith, four)), none-compared (rows 4) (omega (arith, four))))
-      (λ all. omega (arith, four, none-compared (rows 1) (omega (arith, four)), none-compared (rows 3) (omega (arith, four)), none-compared (rows 4) (omega (arith, four))))
-      (λ all. omega (arith, four, none-compared (rows 1) (omega (arith, four)), none-compared (rows 2) (omega (arith, four)), none-compared (rows 4) (omega (arith, four))))
-      (λ all. omega (arith, four, none-compared (rows 1) (omega (arith, four)), none-compared (rows 2) (omega (arith, four)), none-compared (rows 3) (omega (arith, four))))
+      of_four (λ class. length (rows class) ≡ length (legs_of s) → comparisons_of s ≡ comparisons (rows class))
+      (λ all. omega (arith, four, none_compared (rows 2) (omega (arith, four)), none_compared (rows 3) (omega (arith, four)), none_compared (rows 4) (omega (arith, four))))
+      (λ all. omega (arith, four, none_compared (rows 1) (omega (arith, four)), none_compared (rows 3) (omega (arith, four)), none_compared (rows 4) (omega (arith, four))))
+      (λ all. omega (arith, four, none_compared (rows 1) (omega (arith, four)), none_compared (rows 2) (omega (arith, four)), none_compared (rows 4) (omega (arith, four))))
+      (λ all. omega (arith, four, none_compared (rows 1) (omega (arith, four)), none_compared (rows 2) (omega (arith, four)), none_compared (rows 3) (omega (arith, four))))
 
 -- a book whose issues can be netted is accepted
-able-accepted : (s : List ℕ) → (issuesRefusal s).number ≡ 0 → Accepted s
-unfolding issuesRefusal
-able-accepted s e = accepted s (neither-refused _ _ e).0
+able_accepted : (s : List ℕ) → (issues_refusal s).number ≡ 0 → Accepted s
+unfolding issues_refusal
+able_accepted s e = accepted s (neither_refused _ _ e).0
 
 -- the comparisons of a call that takes accepted books alone
 bounded : (s : List ℕ) (refusal : Refusal) → (refusal.number ≡ 0 → Accepted s)
-    → figureOf refusal (comparisonsOf s) ≤ length (legsOf s) * (length (legsOf s) - 1) / 2
-unfolding figureOf
+    → figure_of refusal (comparisons_of s) ≤ length (legs_of s) * (length (legs_of s) - 1) / 2
+unfolding figure_of
 bounded s refusal taken = go (eqb refusal.number 0) refl
   where
-    go : (passes : Bool) → eqb refusal.number 0 ≡ passes → cond passes (comparisonsOf s) 0 ≤ length (legsOf s) * (length (legsOf s) - 1) / 2
-    go true e = halves (length (legsOf s)) (comparisonsOf s) (all-classes s (taken (eqb-true refusal.number 0 e)))
+    go : (passes : Bool) → eqb refusal.number 0 ≡ passes → cond passes (comparisons_of s) 0 ≤ length (legs_of s) * (length (legs_of s) - 1) / 2
+    go true e = halves (length (legs_of s)) (comparisons_of s) (all_classes_lem s (taken (eqb-true refusal.number 0 e)))
     go false e = omega arith
 
 pub comparing : ComparingHolds
-unfolding nettedOf netOffsetOf nettedAnswer nettingRefusal netOffsetRefusal
+unfolding netted_of net_offset_of netted_answer netting_refusal net_offset_refusal
 comparing s room =
-    let taken : (next : Refusal) → (orNext (issuesRefusal s) next).number ≡ 0 → Accepted s =
-    λ next e. able-accepted s (neither-refused (issuesRefusal s) next e).0 in
-    record { netting = bounded s _ (taken _); one-call = bounded s _ (taken _) }
+    let taken : (next : Refusal) → (or_next (issues_refusal s) next).number ≡ 0 → Accepted s =
+    λ next e. able_accepted s (neither_refused (issues_refusal s) next e).0 in
+    record { netting = bounded s _ (taken _); one_call = bounded s _ (taken _) }
 
 pub reaching : ReachingHolds
-unfolding nettedOf nettedAnswer figureOf nettingRefusal
+unfolding netted_of netted_answer figure_of netting_refusal
 reaching s room e class low high all different =
-    let rows = ofClass class (legsOf s) in
-    let most = comparisons-reached [] (every-all (λ row. nothing-kept row.issue) rows) different in
-    rw (eq-eqb (nettingRefusal s room).number 0 e)
-    (halved (length (legsOf s)) (comparisonsOf s) (rw (reached s (able-accepted s (neither-refused (issuesRefusal s) _ e).0) class low high all, ← all) (omega (arith, most))))
+    let rows = of_class class (legs_of s) in
+    let most = comparisons-reached [] (every_all (λ row. nothing-kept row.issue) rows) different in
+    rw (eq-eqb (netting_refusal s room).number 0 e)
+    (halved (length (legs_of s)) (comparisons_of s) (rw (reached s (able_accepted s (neither_refused (issues_refusal s) _ e).0) class low high all, ← all) (omega (arith, most))))

@@ -11,125 +11,125 @@ use lib.ListN.{length, take}
 use borrow.Author.Tests.{eqb-true, eq-eqb}
 use Rattle.book.specs.declared.Refusal.{Refusal}
 use Rattle.book.specs.declared.Row.{Row}
-use Rattle.book.specs.Counts.{countsOf}
-use Rattle.book.specs.Refusals.{lastGroup, leastKind, mostKind, mostDays, mostCoupon, mostFixing, mostFinal, mostAmount, floating, groupRefusal, plainRefusal, noteRefusal, termsRefusal, amountsRefusal, or_else, rowRefusal, refused, refusalOf}
+use Rattle.book.specs.Counts.{counts_of}
+use Rattle.book.specs.Refusals.{last_group, least_kind, most_kind, most_days, most_coupon, most_fixing, most_final, most_amount, floating, group_refusal, plain_refusal, note_refusal, terms_refusal, amounts_refusal, or_else, row_refusal, refused, refusal_of}
 use Rattle.book.specs.Parts.{accepts}
-use Rattle.book.proofs.Acceptance.{accepted, refused-with-none}
+use Rattle.book.proofs.Acceptance.{accepted, refused-with_none}
 use Rattle.book.proofs.Faults.{of_row}
-use Rattle.table.specs.Loaded.{tableSize, table_of, weightsHold, percentsHold, tableRefusal}
-use Rattle.charges.specs.Report.{reportWith, refusedReport, chargedReport, before, reportOf}
-use Rattle.layout.specs.Room.{figureOf, outputOf}
-use Rattle.layout.proofs.Whole.{contents-length}
-use Rattle.layout.proofs.Room.{enough-room}
-use Rattle.shortest.specs.Shortest.{someRow, shortestFile, shortestRefusal, shortestOf, shortestOutput}
-use Rattle.shortest.proofs.Outcome.{file-none, file-contents, row-size, not-accepted}
-use Rattle.shortest.proofs.Shows.{file-refused, file-within, file-least}
+use Rattle.table.specs.Loaded.{table_size, table_of, weights_hold, percents_hold, table_refusal}
+use Rattle.charges.specs.Report.{report_with, refused_report, charged_report, before, report_of}
+use Rattle.layout.specs.Room.{figure_of, output_of}
+use Rattle.layout.proofs.Whole.{contents_length}
+use Rattle.layout.proofs.Room.{enough_room}
+use Rattle.shortest.specs.Shortest.{some_row, shortest_file, shortest_refusal, shortest_of, shortest_output}
+use Rattle.shortest.proofs.Outcome.{file_none, file_contents, row_size_lem, not_accepted}
+use Rattle.shortest.proofs.Shows.{file_refused, file_within, file_least}
 use Rattle.claims.specs.Shortest.{ShortestHolds, ShortestCallHolds}
-use Rattle.claims.proofs.Writing.{book-bytes}
+use Rattle.claims.proofs.Writing.{book_bytes}
 
 -- by an accepted table the charge call refuses what the reader refuses
-report-refusal : (table : List ℕ) → tableRefusal table ≡ 0 → (s : List ℕ) → (reportOf table s).refusal ≡ refusalOf s
-unfolding reportOf before reportWith chargedReport refusedReport
-report-refusal table fine s = rw fine (go (eqb (refusalOf s).number 0) refl)
+report_refusal : (table : List ℕ) → table_refusal table ≡ 0 → (s : List ℕ) → (report_of table s).refusal ≡ refusal_of s
+unfolding report_of before report_with charged_report refused_report
+report_refusal table fine s = rw fine (go (eqb (refusal_of s).number 0) refl)
   where
-    go : (passes : Bool) → eqb (refusalOf s).number 0 ≡ passes → (cond passes (chargedReport (table_of table) s) (refusedReport (refusalOf s))).refusal ≡ refusalOf s
-    go true t = sym (refused-with-none s (accepted s (eqb-true _ _ t)))
+    go : (passes : Bool) → eqb (refusal_of s).number 0 ≡ passes → (cond passes (charged_report (table_of table) s) (refused_report (refusal_of s))).refusal ≡ refusal_of s
+    go true t = sym (refused-with_none s (accepted s (eqb-true _ _ t)))
     go false t = refl
 
 -- and by any other it gives the table's own number
-report-table : (table s : List ℕ) → (tableRefusal table ≡ 0 → ⊥) → (reportOf table s).refusal.number ≡ tableRefusal table
-unfolding reportOf before refused reportWith refusedReport
-report-table table s some = go (eqb (tableRefusal table) 0) refl
+report_table : (table s : List ℕ) → (table_refusal table ≡ 0 → ⊥) → (report_of table s).refusal.number ≡ table_refusal table
+unfolding report_of before refused report_with refused_report
+report_table table s some = go (eqb (table_refusal table) 0) refl
   where
-    go : (none : Bool) → eqb (tableRefusal table) 0 ≡ none → (reportOf table s).refusal.number ≡ tableRefusal table
+    go : (none : Bool) → eqb (table_refusal table) 0 ≡ none → (report_of table s).refusal.number ≡ table_refusal table
     go true t = absurd (some (eqb-true _ _ t))
     go false t = rw t (rw t refl)
 
 -- ---- numbers: a book's are at most 15, a table's 18 and 19
-most-of : (test : Bool) (a b most : ℕ) → a ≤ most → b ≤ most → cond test a b ≤ most
-most-of true a b most first second = first
-most-of false a b most first second = second
+most_of_lem : (test : Bool) (a b most : ℕ) → a ≤ most → b ≤ most → cond test a b ≤ most
+most_of_lem true a b most first second = first
+most_of_lem false a b most first second = second
 
-two-most : (one other : Bool) (a b : ℕ) → a ≤ 15 → b ≤ 15 → cond one a (cond other b 0) ≤ 15
-two-most one other a b first second = most-of one a _ 15 first (most-of other b 0 15 second (omega arith))
+two_most : (one other : Bool) (a b : ℕ) → a ≤ 15 → b ≤ 15 → cond one a (cond other b 0) ≤ 15
+two_most one other a b first second = most_of_lem one a _ 15 first (most_of_lem other b 0 15 second (omega arith))
 
 or_most : (number next : ℕ) → number ≤ 15 → next ≤ 15 → or_else number next ≤ 15
 unfolding or_else
-or_most number next first second = most-of (eqb number 0) next number 15 second first
+or_most number next first second = most_of_lem (eqb number 0) next number 15 second first
 
-row-most : (class : ℕ) (row : Row) → rowRefusal class row ≤ 15
-unfolding rowRefusal groupRefusal termsRefusal noteRefusal plainRefusal amountsRefusal
-row-most class row =
-    or_most (groupRefusal class row) _
-    (two-most (ltb lastGroup row.group) (ltb row.kind (leastKind class) || ltb (mostKind class) row.kind) 4 5 (omega arith) (omega arith))
-    (or_most (termsRefusal class row) (amountsRefusal row)
-    (most-of (floating class row.kind) (noteRefusal row) (plainRefusal class row) 15
-    (most-of (ltb mostFixing row.days || (ltb mostFinal row.coupon || ltb row.coupon row.days)) 15 0 15 (omega arith) (omega arith))
-    (two-most (ltb (mostDays class) row.days) (ltb (mostCoupon class) row.coupon) 6 7 (omega arith) (omega arith)))
-    (two-most (beq (eqb row.long 0) (eqb row.short 0)) (ltb mostAmount row.long || ltb mostAmount row.short) 8 9 (omega arith) (omega arith)))
+row_most : (class : ℕ) (row : Row) → row_refusal class row ≤ 15
+unfolding row_refusal group_refusal terms_refusal note_refusal plain_refusal amounts_refusal
+row_most class row =
+    or_most (group_refusal class row) _
+    (two_most (ltb last_group row.group) (ltb row.kind (least_kind class) || ltb (most_kind class) row.kind) 4 5 (omega arith) (omega arith))
+    (or_most (terms_refusal class row) (amounts_refusal row)
+    (most_of_lem (floating class row.kind) (note_refusal row) (plain_refusal class row) 15
+    (most_of_lem (ltb most_fixing row.days || (ltb most_final row.coupon || ltb row.coupon row.days)) 15 0 15 (omega arith) (omega arith))
+    (two_most (ltb (most_days class) row.days) (ltb (most_coupon class) row.coupon) 6 7 (omega arith) (omega arith)))
+    (two_most (beq (eqb row.long 0) (eqb row.short 0)) (ltb most_amount row.long || ltb most_amount row.short) 8 9 (omega arith) (omega arith)))
 
-number-most : (s : List ℕ) → (refusalOf s).number ≤ 15
-number-most s = go (dec_le 4 (refusalOf s).number)
+number_most : (s : List ℕ) → (refusal_of s).number ≤ 15
+number_most s = go (dec_le 4 (refusal_of s).number)
   where
-    go : Dec (4 ≤ (refusalOf s).number) → (refusalOf s).number ≤ 15
-    go (yes many) = let found = (of_row s many).found in omega (arith, found.number_is, row-most found.leg.class found.leg.row)
+    go : Dec (4 ≤ (refusal_of s).number) → (refusal_of s).number ≤ 15
+    go (yes many) = let found = (of_row s many).found in omega (arith, found.number_is, row_most found.leg.class found.leg.row)
     go (no few) = omega arith
 
-table-least : (table : List ℕ) → (tableRefusal table ≡ 0 → ⊥) → 18 ≤ tableRefusal table
-unfolding tableRefusal
-table-least table = go (not (eqb (length table) tableSize)) (not (weightsHold 0 (table_of table).weights && percentsHold (table_of table).percents))
+table_least : (table : List ℕ) → (table_refusal table ≡ 0 → ⊥) → 18 ≤ table_refusal table
+unfolding table_refusal
+table_least table = go (not (eqb (length table) table_size)) (not (weights_hold 0 (table_of table).weights && percents_hold (table_of table).percents))
   where
     go : (short broken : Bool) → (◌≡◌ {A = ℕ} (cond short 18 (cond broken 19 0)) 0 → ⊥) → 18 ≤ cond short 18 (cond broken 19 0)
     go true broken some = omega arith
     go false true some = omega arith
     go false false some = absurd (some refl)
 
-shorter-not : (s table t : List ℕ) → length t < length (shortestFile s) → (reportOf table t).refusal.number ≡ (refusalOf s).number → ⊥
-shorter-not s table t shorter e = go (dec_le (tableRefusal table) 0)
+shorter_not : (s table t : List ℕ) → length t < length (shortest_file s) → (report_of table t).refusal.number ≡ (refusal_of s).number → ⊥
+shorter_not s table t shorter e = go (dec_le (table_refusal table) 0)
   where
-    go : Dec (tableRefusal table ≤ 0) → ⊥
-    go (yes none) = file-least s t shorter (sym (ap (λ (r : Refusal). r.number) (report-refusal table (omega arith) t)) ∙ e)
-    go (no some) = omega (arith, report-table table t (λ none. some (omega arith)), table-least table (λ none. some (omega arith)), number-most s)
+    go : Dec (table_refusal table ≤ 0) → ⊥
+    go (yes none) = file_least s t shorter (sym (ap (λ (r : Refusal). r.number) (report_refusal table (omega arith) t)) ∙ e)
+    go (no some) = omega (arith, report_table table t (λ none. some (omega arith)), table_least table (λ none. some (omega arith)), number_most s)
 
 pub shortest : ShortestHolds
 shortest s bad =
     record {
-      same = λ table fine. report-refusal table fine (shortestFile s) ∙ file-refused s bad;
-      no_longer = file-within s;
-      least = shorter-not s;
+      same = λ table fine. report_refusal table fine (shortest_file s) ∙ file_refused s bad;
+      no_longer = file_within s;
+      least = shorter_not s;
     }
 
 -- ---- the call
 module _ (s out : List ℕ) where
   abbrev number : ℕ
-  number = (refusalOf s).number
+  number = (refusal_of s).number
 
-  bytes : (shortestRefusal s (length out)).number ≡ 0 → take (shortestOf s (length out)).length (shortestOutput s out) ≡ shortestFile s
-  unfolding shortestOf shortestOutput figureOf outputOf
-  bytes e = rw (eq-eqb _ _ e) (book-bytes (shortestFile s) out)
+  bytes : (shortest_refusal s (length out)).number ≡ 0 → take (shortest_of s (length out)).length (shortest_output s out) ≡ shortest_file s
+  unfolding shortest_of shortest_output figure_of output_of
+  bytes e = rw (eq-eqb _ _ e) (book_bytes (shortest_file s) out)
 
-  size : length (shortestFile s) ≤ 24
+  size : length (shortest_file s) ≤ 24
   size = go (dec_le number 1) (dec_le number 3)
     where
-      go : Dec (number ≤ 1) → Dec (number ≤ 3) → length (shortestFile s) ≤ 24
-      go (yes one) d = omega (arith, ap length (file-none s (omega arith)))
-      go (no more) (yes few) = omega (arith, ap length (file-contents s (omega arith) (omega arith)), contents-length (someRow (countsOf s)))
-      go (no more) (no many) = omega (arith, row-size s (omega arith))
+      go : Dec (number ≤ 1) → Dec (number ≤ 3) → length (shortest_file s) ≤ 24
+      go (yes one) d = omega (arith, ap length (file_none s (omega arith)))
+      go (no more) (yes few) = omega (arith, ap length (file_contents s (omega arith) (omega arith)), contents_length (some_row (counts_of s)))
+      go (no more) (no many) = omega (arith, row_size_lem s (omega arith))
 
   -- nothing is written of an accepted book, and for nothing there is room
-  unmarked : ((shortestRefusal s (length out)).number ≡ 0 → ⊥) → accepts s ≡ false
-  unfolding shortestRefusal refused
+  unmarked : ((shortest_refusal s (length out)).number ≡ 0 → ⊥) → accepts s ≡ false
+  unfolding shortest_refusal refused
   unmarked refused-call = go (dec_le number 0)
     where
       go : Dec (number ≤ 0) → accepts s ≡ false
-      go (yes none) = absurd (refused-call (ap (λ (r : Refusal). r.number) (enough-room (length (shortestFile s)) (length out) (omega (arith, ap length (file-none s (omega arith)))))))
-      go (no some) = not-accepted s (omega arith)
+      go (yes none) = absurd (refused-call (ap (λ (r : Refusal). r.number) (enough_room (length (shortest_file s)) (length out) (omega (arith, ap length (file_none s (omega arith)))))))
+      go (no some) = not_accepted s (omega arith)
 
-pub shortest-call : ShortestCallHolds
-unfolding shortestRefusal shortestOf
-shortest-call s out =
+pub shortest_call : ShortestCallHolds
+unfolding shortest_refusal shortest_of
+shortest_call s out =
     record {
       bytes = bytes s out;
-      enough = λ room. enough-room (length (shortestFile s)) (length out) (omega (arith, size s out));
+      enough = λ room. enough_room (length (shortest_file s)) (length out) (omega (arith, size s out));
       unmarked = unmarked s out;
     }

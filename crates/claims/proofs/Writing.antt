@@ -12,21 +12,21 @@ use borrow.Author.Tests.{eqb-true, eqb-false}
 use Rattle.sums.specs.Every.{Every, none, also}
 use Rattle.book.specs.declared.Row.{Row}
 use Rattle.book.specs.declared.Refusal.{Refusal}
-use Rattle.book.specs.Counts.{classes, countsOf, countIn, rowCount}
+use Rattle.book.specs.Counts.{classes, counts_of, count_in, count_of_rows}
 use Rattle.book.specs.Accepted.{Clean, Accepted}
 use Rattle.book.proofs.Placing.{of_four}
 use Rattle.layout.specs.Written.{written}
-use Rattle.layout.specs.Room.{orNext}
-use Rattle.layout.specs.Files.{countsBy, bookBy}
-use Rattle.layout.proofs.Whole.{file-counts}
-use Rattle.layout.proofs.Rows.{book-accepted}
-use Rattle.charges.specs.Report.{classRows}
-use Rattle.book.proofs.ClassRows.{class-size}
+use Rattle.layout.specs.Room.{or_next}
+use Rattle.layout.specs.Files.{counts_by, book_by}
+use Rattle.layout.proofs.Whole.{file_counts}
+use Rattle.layout.proofs.Rows.{book_accepted}
+use Rattle.charges.specs.Report.{class_rows}
+use Rattle.book.proofs.ClassRows.{class_size}
 
 -- of two refusals, one after the other, neither applies
-pub neither-refused : (refusal next : Refusal) → (orNext refusal next).number ≡ 0 → (refusal.number ≡ 0) × (next.number ≡ 0)
-unfolding orNext
-neither-refused refusal next = go (eqb refusal.number 0) refl
+pub neither_refused : (refusal next : Refusal) → (or_next refusal next).number ≡ 0 → (refusal.number ≡ 0) × (next.number ≡ 0)
+unfolding or_next
+neither_refused refusal next = go (eqb refusal.number 0) refl
   where
     go : (test : Bool) → eqb refusal.number 0 ≡ test → (cond test next refusal).number ≡ 0 → (refusal.number ≡ 0) × (next.number ≡ 0)
     go true t e = (eqb-true _ _ t, e)
@@ -38,36 +38,36 @@ classes-each each =
     also (each 1 (omega arith) (omega arith))
     (also (each 2 (omega arith) (omega arith)) (also (each 3 (omega arith) (omega arith)) (also (each 4 (omega arith) (omega arith)) none)))
 
-pub each-class : {P : ℕ → Type 0} → Every P classes → (class : ℕ) → 1 ≤ class → class ≤ 4 → P class
-each-class {P} (also one (also two (also three (also four none)))) = of_four P one two three four
+pub each_class_lem : {P : ℕ → Type 0} → Every P classes → (class : ℕ) → 1 ≤ class → class ≤ 4 → P class
+each_class_lem {P} (also one (also two (also three (also four none)))) = of_four P one two three four
 
 pub others : {P : ℕ → Type 0} → Every P (2 ∷ 3 ∷ 4 ∷ []) → P 2 × P 3 × P 4
 others (also two (also three (also four none))) = (two, three, four)
 
 -- the bytes of a book that is written at the start of an output
-pub book-bytes : (book out : List ℕ) → take (length book) (written out 0 book) ≡ book
+pub book_bytes : (book out : List ℕ) → take (length book) (written out 0 book) ≡ book
 unfolding written
-book-bytes book out = take_at book _ (length book) refl
+book_bytes book out = take_at book _ (length book) refl
 
-pub book-counts : (rows : ℕ → List Row) → countsOf (bookBy rows) ≡ countsBy rows
-unfolding bookBy
-book-counts rows = file-counts (countsBy rows) _
+pub book_counts : (rows : ℕ → List Row) → counts_of (book_by rows) ≡ counts_by rows
+unfolding book_by
+book_counts rows = file_counts (counts_by rows) _
 
-module _ {s : List ℕ} (ok : Accepted s) (rows : ℕ → List Row) (fewer : (class : ℕ) → length (rows class) ≤ length (classRows s class)) where
-  pub fewer-rows : rowCount (countsBy rows) ≤ rowCount (countsOf s)
-  unfolding rowCount countsBy countIn
-  fewer-rows =
+module _ {s : List ℕ} (ok : Accepted s) (rows : ℕ → List Row) (fewer : (class : ℕ) → length (rows class) ≤ length (class_rows s class)) where
+  pub fewer_rows : count_of_rows (counts_by rows) ≤ count_of_rows (counts_of s)
+  unfolding count_of_rows counts_by count_in
+  fewer_rows =
       omega (
         arith,
-        class-size s ok 1 (omega arith) (omega arith),
-        class-size s ok 2 (omega arith) (omega arith),
-        class-size s ok 3 (omega arith) (omega arith),
-        class-size s ok 4 (omega arith) (omega arith),
+        class_size s ok 1 (omega arith) (omega arith),
+        class_size s ok 2 (omega arith) (omega arith),
+        class_size s ok 3 (omega arith) (omega arith),
+        class_size s ok 4 (omega arith) (omega arith),
         fewer 1,
         fewer 2,
         fewer 3,
         fewer 4,
       )
 
-  pub fewer-accepted : ((class : ℕ) → 1 ≤ class → class ≤ 4 → Every (Clean class) (rows class)) → Accepted (bookBy rows)
-  fewer-accepted = book-accepted rows (omega (arith, fewer-rows, ok.few))
+  pub fewer_accepted : ((class : ℕ) → 1 ≤ class → class ≤ 4 → Every (Clean class) (rows class)) → Accepted (book_by rows)
+  fewer_accepted = book_accepted rows (omega (arith, fewer_rows, ok.few))

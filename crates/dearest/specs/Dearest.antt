@@ -2,38 +2,38 @@
 use Rattle.std.specs.Prelude.{ℕ, cond, ◌||◌, List, ltb, eqb, length, replicate}
 use Rattle.book.specs.declared.Row.{Row}
 use Rattle.book.specs.declared.Refusal.{Refusal}
-use Rattle.book.specs.Refusals.{mostRows, mostAmount, refused}
-use Rattle.layout.specs.Files.{bookOf}
-use Rattle.layout.specs.Room.{orNext, roomRefusal, figureOf, outputOf}
-use Rattle.table.specs.Loaded.{standardBytes}
-use Rattle.charges.specs.Report.{reportOf}
+use Rattle.book.specs.Refusals.{most_rows, most_amount, refused}
+use Rattle.layout.specs.Files.{book_of}
+use Rattle.layout.specs.Room.{or_next, room_refusal, figure_of, output_of}
+use Rattle.table.specs.Loaded.{standard_bytes}
+use Rattle.charges.specs.Report.{report_of}
 pub use Rattle.dearest.specs.declared.Costed.{Costed}
 
 -- ---- what is written
 -- a row of which none of its amount costs more: other paper, long, of 36,000 days and without coupon (P14)
-unfoldable pub dearestRow : ℕ → Row
-dearestRow amount = record { group = 0; kind = 3; days = 36000; coupon = 0; issue = 0; long = amount; short = 0 }
+unfoldable pub dearest_row : ℕ → Row
+dearest_row amount = record { group = 0; kind = 3; days = 36000; coupon = 0; issue = 0; long = amount; short = 0 }
 
 -- so many of them (P14)
-unfoldable pub dearestBook : (rows most : ℕ) → List ℕ
-dearestBook rows most = bookOf (replicate rows (record { class = 1; row = dearestRow most }))
+unfoldable pub dearest_book : (rows most : ℕ) → List ℕ
+dearest_book rows most = book_of (replicate rows (record { class = 1; row = dearest_row most }))
 
 -- ---- the call
 -- 22: more rows than a book has, or an amount that no row has (P14)
-unfoldable pub limitsRefusal : (rows most : ℕ) → Refusal
-limitsRefusal rows most = cond (ltb mostRows rows || (eqb most 0 || ltb mostAmount most)) (refused 22 0) (refused 0 0)
+unfoldable pub limits_refusal : (rows most : ℕ) → Refusal
+limits_refusal rows most = cond (ltb most_rows rows || (eqb most 0 || ltb most_amount most)) (refused 22 0) (refused 0 0)
 
 -- the refusal, into an output of so many bytes: 22, then 12 (P14)
-unfoldable pub dearestRefusal : (rows most room : ℕ) → Refusal
-dearestRefusal rows most room = orNext (limitsRefusal rows most) (roomRefusal (length (dearestBook rows most)) room)
+unfoldable pub dearest_refusal : (rows most room : ℕ) → Refusal
+dearest_refusal rows most room = or_next (limits_refusal rows most) (room_refusal (length (dearest_book rows most)) room)
 
 -- the answer: the refusal, the length of the book, and its total by document 01's table (P14)
-unfoldable pub dearestOf : (rows most room : ℕ) → Costed
-dearestOf rows most room =
-    let refusal = dearestRefusal rows most room in
-    let book = dearestBook rows most in
-    record { refusal = refusal; length = figureOf refusal (length book); total = figureOf refusal (reportOf standardBytes book).total }
+unfoldable pub dearest_of : (rows most room : ℕ) → Costed
+dearest_of rows most room =
+    let refusal = dearest_refusal rows most room in
+    let book = dearest_book rows most in
+    record { refusal = refusal; length = figure_of refusal (length book); total = figure_of refusal (report_of standard_bytes book).total }
 
 -- the output afterwards (P14)
-unfoldable pub dearestOutput : (rows most : ℕ) (out : List ℕ) → List ℕ
-dearestOutput rows most out = outputOf (dearestRefusal rows most (length out)) (dearestBook rows most) out
+unfoldable pub dearest_output : (rows most : ℕ) (out : List ℕ) → List ℕ
+dearest_output rows most out = output_of (dearest_refusal rows most (length out)) (dearest_book rows most) out

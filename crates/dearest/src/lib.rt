@@ -1,10 +1,10 @@
 // Writes the dearest book of so many rows of at most an amount each into an output that the caller lends.
 ghost use Rattle.std.specs.Prelude.{◌≡◌, ◌++◌, ◌+◌, ◌*◌, ◌≤◌, length as len};
-ghost use Rattle.book.specs.Counts.{contentsSize, rowSize};
-ghost use Rattle.book.specs.Refusals.{mostRows, mostAmount};
+ghost use Rattle.book.specs.Counts.{contents_size, row_size};
+ghost use Rattle.book.specs.Refusals.{most_rows, most_amount};
 ghost use Rattle.layout.specs.Written.{written};
-ghost use Rattle.dearest.specs.Dearest.{dearestRow, dearestBook, limitsRefusal, dearestOf, dearestOutput};
-ghost use Rattle.dearest.specs.Inner.Parts.{interestAlone, rowTimes, answer_of};
+ghost use Rattle.dearest.specs.Dearest.{dearest_row, dearest_book, limits_refusal, dearest_of, dearest_output};
+ghost use Rattle.dearest.specs.Inner.Parts.{interest_alone, row_times, answer_of};
 
 use book::{CONTENTS_SIZE, Counts, MOST_ROWS, ROW_SIZE, Refusal, Row};
 
@@ -25,7 +25,7 @@ pub struct Costed {
 // Writes the dearest book of so many rows of at most an amount each at the start of out, and gives its total by the Amendment's table; bytes past
 // it keep their values, and all do where the call is refused.
 pub fn dearest(rows: usize, most: u64, out: &mut [u8]) -> Costed
-    ensures { (result ≡ dearestOf rows most (len out.old)) × (out.new ≡ dearestOutput rows most out.old) }
+    ensures { (result ≡ dearest_of rows most (len out.old)) × (out.new ≡ dearest_output rows most out.old) }
 {
     if limits_refusal(rows, most) != 0 {
         return answer(22, 0, 0);
@@ -40,7 +40,7 @@ pub fn dearest(rows: usize, most: u64, out: &mut [u8]) -> Costed
 
 // 22 for more rows than a book has, or an amount that no row has; else 0.
 fn limits_refusal(rows: usize, most: u64) -> u8
-    ensures { result ≡ (limitsRefusal rows most).number }
+    ensures { result ≡ (limits_refusal rows most).number }
 {
     if MOST_ROWS < rows {
         return 22;
@@ -66,15 +66,15 @@ fn answer(number: u8, length: usize, total: u64) -> Costed
 
 // Writes the contents and the rows.
 fn write_book(rows: usize, most: u64, out: &mut [u8])
-    requires { (rows ≤ mostRows) × (most ≤ mostAmount) × (contentsSize + rowSize * rows ≤ len out.old) }
-    ensures { out.new ≡ written out.old 0 (dearestBook rows most) }
+    requires { (rows ≤ most_rows) × (most ≤ most_amount) × (contents_size + row_size * rows ≤ len out.old) }
+    ensures { out.new ≡ written out.old 0 (dearest_book rows most) }
 {
     layout::contents::write_contents(interest_alone(rows as u16), out);
     write_rows(dearest_row(most as u32), rows, out);
 }
 
 fn interest_alone(rows: u16) -> Counts
-    ensures { result ≡ interestAlone rows }
+    ensures { result ≡ interest_alone rows }
 {
     Counts {
         interest: rows,
@@ -86,7 +86,7 @@ fn interest_alone(rows: u16) -> Counts
 
 // Other paper of 36,000 days, without coupon, long.
 fn dearest_row(amount: u32) -> Row
-    ensures { result ≡ dearestRow amount }
+    ensures { result ≡ dearest_row amount }
 {
     Row {
         group: 0,
@@ -101,8 +101,8 @@ fn dearest_row(amount: u32) -> Row
 
 // Writes one row so many times after the contents.
 fn write_rows(row: Row, rows: usize, out: &mut [u8])
-    requires { (rows ≤ mostRows) × (contentsSize + rowSize * rows ≤ len out.old) }
-    ensures { out.new ≡ written out.old contentsSize (rowTimes rows row) }
+    requires { (rows ≤ most_rows) × (contents_size + row_size * rows ≤ len out.old) }
+    ensures { out.new ≡ written out.old contents_size (row_times rows row) }
 {
     let mut at: usize = 0;
     while at < rows {

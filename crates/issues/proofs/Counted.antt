@@ -8,26 +8,26 @@ use native.Mathlib.Decide.{ℕ_discrete}
 use native.Mathlib.Omega.{arith}
 use lib.Dec.{eqb}
 use Rattle.sums.specs.Sums.{sum_of}
-use Rattle.sums.proofs.Sums.{sumOf-append}
-use Rattle.sums.proofs.Cases.{cond-add}
+use Rattle.sums.proofs.Sums.{sum_of_append}
+use Rattle.sums.proofs.Cases.{cond_add}
 use Rattle.book.specs.declared.Row.{Row}
 use Rattle.ladder.specs.declared.positions.Position.{Position}
 use Rattle.ladder.specs.Position.{empty, gross, matched, net, ◌⊕◌}
-use Rattle.ladder.proofs.Matching.{same-position}
-use Rattle.issues.specs.Issues.{issuesOf, has, holding, placed, nettedFrom}
+use Rattle.ladder.proofs.Matching.{same_position}
+use Rattle.issues.specs.Issues.{issues_of, has, holding, placed, netted_from}
 use Rattle.issues.specs.Agreeing.{SameTerms}
-use Rattle.issues.proofs.Walking.{has-own, has_other, issue-other, Place, stays, gone, stands, place, row_stays, row-gone, row-stands, placed-none, placed-some}
+use Rattle.issues.proofs.Walking.{has-own, has_other, issue_other, Place, stays, gone, stands, place, row_stays, row_gone, row_stands, placed-none, placed-some}
 
 -- ---- bytes 0 to 7 of a row
 abbrev pub bare : Row → Row
 bare row = holding row empty
 
-pub same-bare : {a b : Row} → a.issue ≡ b.issue → SameTerms a b → bare a ≡ bare b
-same-bare e t = λ i.
+pub same_bare : {a b : Row} → a.issue ≡ b.issue → SameTerms a b → bare a ≡ bare b
+same_bare e t = λ i.
     record { group = t.group i; kind = t.kind i; days = t.days i; coupon = t.coupon i; issue = e i; long = 0; short = 0 }
 
-pub bare-terms : {a b : Row} → bare a ≡ bare b → SameTerms a b
-bare-terms e =
+pub bare_terms : {a b : Row} → bare a ≡ bare b → SameTerms a b
+bare_terms e =
     record {
       group = ap (λ (row : Row). row.group) e;
       kind = ap (λ (row : Row). row.kind) e;
@@ -40,18 +40,18 @@ pub record Measure (counts : Row → ℕ → ℕ) : Type 0 where
   pub adds : (row : Row) (m n : ℕ) → counts row (m + n) ≡ counts row m + counts row n
   pub blind : (row : Row) (n : ℕ) → counts row n ≡ counts (bare row) n
 
-pub plain-measure : Measure (λ row n. n)
-plain-measure = record { adds = λ row m n. refl; blind = λ row n. refl }
+pub plain_measure : Measure (λ row n. n)
+plain_measure = record { adds = λ row m n. refl; blind = λ row n. refl }
 
-pub times-measure : (weight : Row → ℕ) → ((row : Row) → weight row ≡ weight (bare row)) → Measure (λ row n. weight row * n)
-times-measure weight same = record { adds = λ row m n. omega arith; blind = λ row n. ap (λ (w : ℕ). w * n) (same row) }
+pub times_measure : (weight : Row → ℕ) → ((row : Row) → weight row ≡ weight (bare row)) → Measure (λ row n. weight row * n)
+times_measure weight same = record { adds = λ row m n. omega arith; blind = λ row n. ap (λ (w : ℕ). w * n) (same row) }
 
 -- only where an index is k
-pub index-measure : (index : Row → ℕ) (k : ℕ) → ((row : Row) → index row ≡ index (bare row)) → {counts : Row → ℕ → ℕ} → Measure counts
+pub index_measure : (index : Row → ℕ) (k : ℕ) → ((row : Row) → index row ≡ index (bare row)) → {counts : Row → ℕ → ℕ} → Measure counts
     → Measure (λ row n. cond (eqb (index row) k) (counts row n) 0)
-index-measure index k same {counts} m =
+index_measure index k same {counts} m =
     record {
-      adds = λ row a b. rw (m.adds row a b) (sym (cond-add (eqb (index row) k) (counts row a) 0 (counts row b) 0));
+      adds = λ row a b. rw (m.adds row a b) (sym (cond_add (eqb (index row) k) (counts row a) 0 (counts row b) 0));
       blind = λ row n. rw (same row, m.blind row n);
     }
 
@@ -59,24 +59,24 @@ index-measure index k same {counts} m =
 abbrev pub counted : (Row → ℕ → ℕ) → List Row → Position
 counted counts rows = record { long = sum_of (λ row. counts row row.long) rows; short = sum_of (λ row. counts row row.short) rows }
 
-pub counted-append : (counts : Row → ℕ → ℕ) (rows more : List Row) → counted counts (rows ++ more) ≡ counted counts rows ⊕ counted counts more
-counted-append counts rows more =
-    same-position (sumOf-append (λ row. counts row row.long) rows more) (sumOf-append (λ row. counts row row.short) rows more)
+pub counted_append : (counts : Row → ℕ → ℕ) (rows more : List Row) → counted counts (rows ++ more) ≡ counted counts rows ⊕ counted counts more
+counted_append counts rows more =
+    same_position (sum_of_append (λ row. counts row row.long) rows more) (sum_of_append (λ row. counts row row.short) rows more)
 
 -- a position, as a row counts it
 abbrev pub scaled : (Row → ℕ → ℕ) → Row → Position → Position
 scaled counts row a = record { long = counts row a.long; short = counts row a.short }
 
 -- ---- of the issues seen, only which they are matters
-same_seen : (seen seen' : List ℕ) → ((i : ℕ) → has seen i ≡ has seen' i) → (rows : List Row) → nettedFrom seen rows ≡ nettedFrom seen' rows
-unfolding nettedFrom has
+same_seen : (seen seen' : List ℕ) → ((i : ℕ) → has seen i ≡ has seen' i) → (rows : List Row) → netted_from seen rows ≡ netted_from seen' rows
+unfolding netted_from has
 same_seen seen seen' same [] = refl
 same_seen seen seen' same (row ∷ rows) =
     rw (same row.issue, same_seen seen seen' same rows, same_seen (row.issue ∷ seen) (row.issue ∷ seen') (λ i. rw (same i)) rows)
 
-seen-swapped : (j k : ℕ) (seen : List ℕ) (i : ℕ) → has (j ∷ k ∷ seen) i ≡ has (k ∷ j ∷ seen) i
+seen_swapped : (j k : ℕ) (seen : List ℕ) (i : ℕ) → has (j ∷ k ∷ seen) i ≡ has (k ∷ j ∷ seen) i
 unfolding has
-seen-swapped j k seen i = go (eqb j i) (eqb k i)
+seen_swapped j k seen i = go (eqb j i) (eqb k i)
   where
     go : (a b : Bool) → (a || (b || has seen i)) ≡ (b || (a || has seen i))
     go true true = refl
@@ -93,8 +93,8 @@ pub record Splits (whole part rest : Position) : Type 0 where
   pub shorts : whole.short ≡ part.short + rest.short
 
 module _ {counts : Row → ℕ → ℕ} (m : Measure counts) where
-  counts-none : (row : Row) → counts row 0 ≡ 0
-  counts-none row = omega (arith, m.adds row 0 0)
+  counts_none : (row : Row) → counts row 0 ≡ 0
+  counts_none row = omega (arith, m.adds row 0 0)
 
   counts_same : (a b : Row) → bare a ≡ bare b → (n : ℕ) → counts a n ≡ counts b n
   counts_same a b e n = m.blind a n ∙ ap (λ (row : Row). counts row n) e ∙ sym (m.blind b n)
@@ -109,16 +109,16 @@ module _ {counts : Row → ℕ → ℕ} (m : Measure counts) where
 
       go : Dec (gross x ≡ 0) → Splits (counted counts (placed row x more)) (scaled counts row x) (counted counts more)
       go (yes nil) =
-          let is-empty : x ≡ empty = same-position (omega arith) (omega arith) in
-          rw (placed-none row x more nil, is-empty) (omega (arith, counts-none row))
+          let is-empty : x ≡ empty = same_position (omega arith) (omega arith) in
+          rw (placed-none row x more nil, is-empty) (omega (arith, counts_none row))
       go (no some) = rw (placed-some row x more some) (omega (arith, alike x.long, alike x.short))
 
   -- the netted rows after some issues, and after one issue j more: they differ by the net of j, which any row with j's terms may count
   pub split_off : (j : ℕ) (row : Row) (seen : List ℕ) (rows : List Row) → (j ≡ 0 → ⊥) → has seen j ≡ false
       → ((r : Row) → Memᴰ r rows → r.issue ≡ j → bare r ≡ bare row)
-      → Splits (counted counts (nettedFrom seen rows)) (scaled counts row (net (issuesOf rows j))) (counted counts (nettedFrom (j ∷ seen) rows))
-  unfolding nettedFrom sum_of
-  split_off j row seen [] some new alike = rw net-empty (omega (arith, counts-none row))
+      → Splits (counted counts (netted_from seen rows)) (scaled counts row (net (issues_of rows j))) (counted counts (netted_from (j ∷ seen) rows))
+  unfolding netted_from sum_of
+  split_off j row seen [] some new alike = rw net-empty (omega (arith, counts_none row))
   split_off j row seen (r ∷ rows) some new alike =
       go (place seen r) (ℕ_discrete j r.issue) (split_off j row seen rows some new later)
       (λ other. split_off j row (r.issue ∷ seen) rows some (has_other r.issue j seen (λ e. other (sym e)) ∙ new) later)
@@ -127,42 +127,42 @@ module _ {counts : Row → ℕ → ℕ} (m : Measure counts) where
       later r' member = alike r' (Memᴰ.tail member)
 
       left : List ℕ → Position
-      left old = counted counts (nettedFrom old rows)
+      left old = counted counts (netted_from old rows)
 
       go : Place seen r → Dec (j ≡ r.issue)
-          → Splits (left seen) (scaled counts row (net (issuesOf rows j))) (left (j ∷ seen))
-          → ((j ≡ r.issue → ⊥) → Splits (left (r.issue ∷ seen)) (scaled counts row (net (issuesOf rows j))) (left (j ∷ r.issue ∷ seen)))
-          → Splits (counted counts (nettedFrom seen (r ∷ rows))) (scaled counts row (net (issuesOf (r ∷ rows) j))) (counted counts (nettedFrom (j ∷ seen) (r ∷ rows)))
+          → Splits (left seen) (scaled counts row (net (issues_of rows j))) (left (j ∷ seen))
+          → ((j ≡ r.issue → ⊥) → Splits (left (r.issue ∷ seen)) (scaled counts row (net (issues_of rows j))) (left (j ∷ r.issue ∷ seen)))
+          → Splits (counted counts (netted_from seen (r ∷ rows))) (scaled counts row (net (issues_of (r ∷ rows) j))) (counted counts (netted_from (j ∷ seen) (r ∷ rows)))
       go (stays e) own same rest =
-          rw (row_stays seen r rows e, row_stays (j ∷ seen) r rows e, issue-other r rows j (λ own'. some (sym own' ∙ e))) (omega (arith, same))
+          rw (row_stays seen r rows e, row_stays (j ∷ seen) r rows e, issue_other r rows j (λ own'. some (sym own' ∙ e))) (omega (arith, same))
       go (gone some' old) own same rest =
           let other : j ≡ r.issue → ⊥ = λ own'. true≢false (sym old ∙ ap (has seen) (sym own') ∙ new) in
           rw (
-            row-gone seen r rows some' old,
-            row-gone (j ∷ seen) r rows some' (has_other j r.issue seen other ∙ old),
-            issue-other r rows j (λ e. other (sym e)),
+            row_gone seen r rows some' old,
+            row_gone (j ∷ seen) r rows some' (has_other j r.issue seen other ∙ old),
+            issue_other r rows j (λ e. other (sym e)),
           ) same
       go (stands some' new') (yes own) same rest =
           let alike-here = alike r (Memᴰ.head refl) (sym own) in
-          let part = net (issuesOf (r ∷ rows) r.issue) in
-          rw (row-stands seen r rows some' new', own, row-gone (r.issue ∷ seen) r rows some' (has-own r.issue seen))
+          let part = net (issues_of (r ∷ rows) r.issue) in
+          rw (row_stands seen r rows some' new', own, row_gone (r.issue ∷ seen) r rows some' (has-own r.issue seen))
           (omega (
             arith,
-            placed-counted r part (nettedFrom (r.issue ∷ seen) rows),
+            placed-counted r part (netted_from (r.issue ∷ seen) rows),
             counts_same r row alike-here part.long,
             counts_same r row alike-here part.short,
           ))
       go (stands some' new') (no other) same rest =
-          let part = net (issuesOf (r ∷ rows) r.issue) in
+          let part = net (issues_of (r ∷ rows) r.issue) in
           rw (
-            row-stands seen r rows some' new',
-            row-stands (j ∷ seen) r rows some' (has_other j r.issue seen other ∙ new'),
-            issue-other r rows j (λ e. other (sym e)),
-            same_seen _ _ (seen-swapped r.issue j seen) rows,
+            row_stands seen r rows some' new',
+            row_stands (j ∷ seen) r rows some' (has_other j r.issue seen other ∙ new'),
+            issue_other r rows j (λ e. other (sym e)),
+            same_seen _ _ (seen_swapped r.issue j seen) rows,
           )
           (omega (
             arith,
-            placed-counted r part (nettedFrom (r.issue ∷ seen) rows),
-            placed-counted r part (nettedFrom (j ∷ r.issue ∷ seen) rows),
+            placed-counted r part (netted_from (r.issue ∷ seen) rows),
+            placed-counted r part (netted_from (j ∷ r.issue ∷ seen) rows),
             rest other,
           ))

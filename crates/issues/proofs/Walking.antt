@@ -9,12 +9,12 @@ use lib.Dec.{eqb}
 use lib.ListN.{length}
 use borrow.Author.Tests.{eqb-true, eqb-false, eq-eqb, ne_eqb}
 use Rattle.sums.specs.Sums.{sum_of}
-use Rattle.sums.proofs.Spans.{slot-own, slot-other}
+use Rattle.sums.proofs.Spans.{slot_own, slot_other}
 use Rattle.book.specs.declared.Row.{Row}
 use Rattle.ladder.specs.declared.positions.Position.{Position}
 use Rattle.ladder.specs.Position.{gross, net, ◌⊕◌}
-use Rattle.ladder.proofs.Matching.{same-position}
-use Rattle.issues.specs.Issues.{issuesOf, has, holding, placed, nettedFrom, nettedRows}
+use Rattle.ladder.proofs.Matching.{same_position}
+use Rattle.issues.specs.Issues.{issues_of, has, holding, placed, netted_from, netted_rows}
 
 -- ---- issue numbers in a list
 pub has-own : (i : ℕ) (seen : List ℕ) → has (i ∷ seen) i ≡ true
@@ -30,15 +30,15 @@ has_other j i seen other = rw (ne_eqb j i other)
 abbrev pub amounts : Row → Position
 amounts row = record { long = row.long; short = row.short }
 
-pub issue-own : (row : Row) (rows : List Row) (i : ℕ) → row.issue ≡ i → issuesOf (row ∷ rows) i ≡ amounts row ⊕ issuesOf rows i
+pub issue_own : (row : Row) (rows : List Row) (i : ℕ) → row.issue ≡ i → issues_of (row ∷ rows) i ≡ amounts row ⊕ issues_of rows i
 unfolding sum_of
-issue-own row rows i own =
-    same-position (omega (arith, slot-own row.issue row.long i own)) (omega (arith, slot-own row.issue row.short i own))
+issue_own row rows i own =
+    same_position (omega (arith, slot_own row.issue row.long i own)) (omega (arith, slot_own row.issue row.short i own))
 
-pub issue-other : (row : Row) (rows : List Row) (i : ℕ) → (row.issue ≡ i → ⊥) → issuesOf (row ∷ rows) i ≡ issuesOf rows i
+pub issue_other : (row : Row) (rows : List Row) (i : ℕ) → (row.issue ≡ i → ⊥) → issues_of (row ∷ rows) i ≡ issues_of rows i
 unfolding sum_of
-issue-other row rows i other =
-    same-position (omega (arith, slot-other row.issue row.long i other)) (omega (arith, slot-other row.issue row.short i other))
+issue_other row rows i other =
+    same_position (omega (arith, slot_other row.issue row.long i other)) (omega (arith, slot_other row.issue row.short i other))
 
 -- ---- a row after others whose issues were seen
 pub data Place (seen : List ℕ) (row : Row) : Type 0 where
@@ -55,18 +55,18 @@ place seen row = go (eqb row.issue 0) refl (has seen row.issue) refl
     go false e false e' = stands (eqb-false row.issue 0 e) e'
 
 module _ (seen : List ℕ) (row : Row) (rows : List Row) where
-  pub row_stays : row.issue ≡ 0 → nettedFrom seen (row ∷ rows) ≡ row ∷ nettedFrom seen rows
-  unfolding nettedFrom
+  pub row_stays : row.issue ≡ 0 → netted_from seen (row ∷ rows) ≡ row ∷ netted_from seen rows
+  unfolding netted_from
   row_stays e = rw (eq-eqb row.issue 0 e)
 
-  pub row-gone : (row.issue ≡ 0 → ⊥) → has seen row.issue ≡ true → nettedFrom seen (row ∷ rows) ≡ nettedFrom seen rows
-  unfolding nettedFrom
-  row-gone some old = rw (ne_eqb row.issue 0 some, old)
+  pub row_gone : (row.issue ≡ 0 → ⊥) → has seen row.issue ≡ true → netted_from seen (row ∷ rows) ≡ netted_from seen rows
+  unfolding netted_from
+  row_gone some old = rw (ne_eqb row.issue 0 some, old)
 
-  pub row-stands : (row.issue ≡ 0 → ⊥) → has seen row.issue ≡ false
-      → nettedFrom seen (row ∷ rows) ≡ placed row (net (issuesOf (row ∷ rows) row.issue)) (nettedFrom (row.issue ∷ seen) rows)
-  unfolding nettedFrom
-  row-stands some new = rw (ne_eqb row.issue 0 some, new)
+  pub row_stands : (row.issue ≡ 0 → ⊥) → has seen row.issue ≡ false
+      → netted_from seen (row ∷ rows) ≡ placed row (net (issues_of (row ∷ rows) row.issue)) (netted_from (row.issue ∷ seen) rows)
+  unfolding netted_from
+  row_stands some new = rw (ne_eqb row.issue 0 some, new)
 
 -- ---- a net in the place of a row
 pub placed-none : (row : Row) (position : Position) (more : List Row) → gross position ≡ 0 → placed row position more ≡ more
@@ -86,18 +86,18 @@ placed-length row position more = go (eqb (gross position) 0)
     go true = omega arith
     go false = omega arith
 
-fewer-from : (seen : List ℕ) (rows : List Row) → length (nettedFrom seen rows) ≤ length rows
-unfolding nettedFrom
-fewer-from seen [] = omega arith
-fewer-from seen (row ∷ rows) = go (place seen row) (fewer-from seen rows) (fewer-from (row.issue ∷ seen) rows)
+fewer_from : (seen : List ℕ) (rows : List Row) → length (netted_from seen rows) ≤ length rows
+unfolding netted_from
+fewer_from seen [] = omega arith
+fewer_from seen (row ∷ rows) = go (place seen row) (fewer_from seen rows) (fewer_from (row.issue ∷ seen) rows)
   where
-    go : Place seen row → length (nettedFrom seen rows) ≤ length rows → length (nettedFrom (row.issue ∷ seen) rows) ≤ length rows
-        → length (nettedFrom seen (row ∷ rows)) ≤ length (row ∷ rows)
+    go : Place seen row → length (netted_from seen rows) ≤ length rows → length (netted_from (row.issue ∷ seen) rows) ≤ length rows
+        → length (netted_from seen (row ∷ rows)) ≤ length (row ∷ rows)
     go (stays e) same more = rw (row_stays seen row rows e) (omega arith)
-    go (gone some old) same more = rw (row-gone seen row rows some old) (omega arith)
+    go (gone some old) same more = rw (row_gone seen row rows some old) (omega arith)
     go (stands some new) same more =
-        rw (row-stands seen row rows some new)
-        (omega (arith, placed-length row (net (issuesOf (row ∷ rows) row.issue)) (nettedFrom (row.issue ∷ seen) rows)))
+        rw (row_stands seen row rows some new)
+        (omega (arith, placed-length row (net (issues_of (row ∷ rows) row.issue)) (netted_from (row.issue ∷ seen) rows)))
 
-pub netted-fewer : (rows : List Row) → length (nettedRows rows) ≤ length rows
-netted-fewer = fewer-from []
+pub netted_fewer : (rows : List Row) → length (netted_rows rows) ≤ length rows
+netted_fewer = fewer_from []

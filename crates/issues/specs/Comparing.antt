@@ -6,23 +6,23 @@ use Rattle.book.specs.declared.Row.{Row}
 use Rattle.issues.specs.Issues.{has}
 
 -- the issue numbers of the kept rows, with one row more: a row of issue 0 has none, and one of an issue that is kept is not kept (P7)
-abbrev pub keptWith : List ℕ → ℕ → List ℕ
-keptWith kept issue = cond (eqb issue 0 || has kept issue) kept (kept ++ (issue ∷ []))
+abbrev pub kept_with : List ℕ → ℕ → List ℕ
+kept_with kept issue = cond (eqb issue 0 || has kept issue) kept (kept ++ (issue ∷ []))
 
 -- an issue number against the kept ones, in order, to the first equal (P7)
-unfoldable pub comparedWith : List ℕ → ℕ → ℕ
-comparedWith [] issue = 0
-comparedWith (first ∷ kept) issue = suc (cond (eqb first issue) 0 (comparedWith kept issue))
+unfoldable pub compared_with : List ℕ → ℕ → ℕ
+compared_with [] issue = 0
+compared_with (first ∷ kept) issue = suc (cond (eqb first issue) 0 (compared_with kept issue))
 
 -- all rows, after some that are kept, also those that net to zero in the end (P7)
-unfoldable pub comparisonsFrom : List ℕ → List Row → ℕ
-comparisonsFrom kept [] = 0
-comparisonsFrom kept (row ∷ rows) =
-    cond (eqb row.issue 0) 0 (comparedWith kept row.issue) + comparisonsFrom (keptWith kept row.issue) rows
+unfoldable pub comparisons_from : List ℕ → List Row → ℕ
+comparisons_from kept [] = 0
+comparisons_from kept (row ∷ rows) =
+    cond (eqb row.issue 0) 0 (compared_with kept row.issue) + comparisons_from (kept_with kept row.issue) rows
 
 -- the rows of a class (P7)
 abbrev pub comparisons : List Row → ℕ
-comparisons = comparisonsFrom []
+comparisons = comparisons_from []
 
 -- rows of different issues, none of them 0 (P7)
 pub data Different : List Row → Type 0 where

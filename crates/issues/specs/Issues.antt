@@ -3,11 +3,11 @@ use Rattle.std.specs.Prelude.{ℕ, Bool, false, cond, ◌||◌, List, [], ◌∷
 use Rattle.book.specs.declared.Row.{Row}
 use Rattle.ladder.specs.declared.positions.Position.{Position}
 use Rattle.ladder.specs.Position.{Bands, gross, net}
-use Rattle.ladder.specs.Rows.{positionsBy}
+use Rattle.ladder.specs.Rows.{positions_by}
 
 -- the longs and shorts of each issue number (P1)
-abbrev pub issuesOf : List Row → Bands
-issuesOf = positionsBy (λ row. row.issue) (λ row. row.long) (λ row. row.short)
+abbrev pub issues_of : List Row → Bands
+issues_of = positions_by (λ row. row.issue) (λ row. row.long) (λ row. row.short)
 
 -- whether an issue number is in a list (P1)
 unfoldable pub has : List ℕ → ℕ → Bool
@@ -33,13 +33,13 @@ placed row position more = cond (eqb (gross position) 0) more (holding row posit
 
 -- the netted rows, after others whose issues were seen: a row of issue 0 stays as it is; the first row of an issue stands for all of them, with
 -- their net; the later ones are gone (P1)
-unfoldable pub nettedFrom : List ℕ → List Row → List Row
-nettedFrom seen [] = []
-nettedFrom seen (row ∷ rows) =
-    cond (eqb row.issue 0) (row ∷ nettedFrom seen rows)
-    (cond (has seen row.issue) (nettedFrom seen rows)
-    (placed row (net (issuesOf (row ∷ rows) row.issue)) (nettedFrom (row.issue ∷ seen) rows)))
+unfoldable pub netted_from : List ℕ → List Row → List Row
+netted_from seen [] = []
+netted_from seen (row ∷ rows) =
+    cond (eqb row.issue 0) (row ∷ netted_from seen rows)
+    (cond (has seen row.issue) (netted_from seen rows)
+    (placed row (net (issues_of (row ∷ rows) row.issue)) (netted_from (row.issue ∷ seen) rows)))
 
 -- the netted rows of a class (P1)
-abbrev pub nettedRows : List Row → List Row
-nettedRows = nettedFrom []
+abbrev pub netted_rows : List Row → List Row
+netted_rows = netted_from []

@@ -1,14 +1,14 @@
 // The counts of the joined book.
 ghost use Rattle.std.specs.Prelude.{◌≡◌, ◌+◌, ◌≤◌};
-ghost use Rattle.book.specs.Counts.{rowCount};
-ghost use Rattle.join.specs.Joined.{addedCounts};
+ghost use Rattle.book.specs.Counts.{count_of_rows};
+ghost use Rattle.join.specs.Joined.{added_counts};
 
 use book::Counts;
 
 // Adds counts class by class.
 pub fn add(a: Counts, b: Counts) -> Counts
-    requires { rowCount a + rowCount b ≤ 65535 }
-    ensures { result ≡ addedCounts a b }
+    requires { count_of_rows a + count_of_rows b ≤ 65535 }
+    ensures { result ≡ added_counts a b }
 {
     Counts {
         interest: a.interest + b.interest,

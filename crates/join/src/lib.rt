@@ -3,7 +3,7 @@ mod bodies;
 mod counts;
 
 ghost use Rattle.std.specs.Prelude.{◌≡◌, length as len};
-ghost use Rattle.join.specs.Joined.{inBook, settled, joinedOf, joinOutput};
+ghost use Rattle.join.specs.Joined.{in_book, settled, joined_of, join_output};
 
 use book::{CONTENTS_SIZE, MOST_ROWS, ROW_SIZE, Refusal};
 
@@ -16,7 +16,7 @@ pub struct Joined {
 
 // Writes the joined book at the start of out; bytes past it keep their values, and all do where the join is refused.
 pub fn join(a: &[u8], b: &[u8], out: &mut [u8]) -> Joined
-    ensures { (result ≡ joinedOf a.now b.now (len out.old)) × (out.new ≡ joinOutput a.now b.now out.old) }
+    ensures { (result ≡ joined_of a.now b.now (len out.old)) × (out.new ≡ join_output a.now b.now out.old) }
 {
     let first = book::read(a);
     let second = book::read(b);
@@ -53,7 +53,7 @@ fn settle(first: Refusal, second: Refusal, rows: usize, length: usize, room: usi
 
 // A refusal of book 0, which is A, or of book 1, which is B.
 fn in_book(book: u8, refusal: Refusal) -> Refusal
-    ensures { result ≡ inBook book refusal }
+    ensures { result ≡ in_book book refusal }
 {
     Refusal {
         number: refusal.number,

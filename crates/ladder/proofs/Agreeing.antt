@@ -6,11 +6,11 @@ use native.Mathlib.Omega.{arith}
 use Rattle.ladder.specs.Position.{Position, Bands, gross, net, total}
 use Rattle.sums.specs.Sums.{span}
 use Rattle.ladder.specs.Table.{Percents}
-use Rattle.ladder.specs.Interest.{zones, matches, interestFigures}
-use Rattle.ladder.specs.Commodity.{Carried, nothing, toBand, carry, carryFigures, commodityFigures}
-use Rattle.ladder.specs.Nets.{absoluteNets, shorthand, simplified}
-use Rattle.ladder.specs.Inner.Steps.{zoneOf}
-use Rattle.ladder.proofs.Gathering.{zone-same, matches-combined}
+use Rattle.ladder.specs.Interest.{zones, matches, interest_figures}
+use Rattle.ladder.specs.Commodity.{Carried, nothing, to_band, carry, carry_figures, commodity_figures}
+use Rattle.ladder.specs.Nets.{absolute_nets, shorthand, simplified}
+use Rattle.ladder.specs.Inner.Steps.{zone_of}
+use Rattle.ladder.proofs.Gathering.{zone_same, matches-combined}
 
 -- two ladders agree below band n
 pub record Agree (n : ℕ) (f g : Bands) : Type 0 where
@@ -25,31 +25,31 @@ module _ {n : ℕ} {f g : Bands} (agree : Agree n f g) where
   pub gross-agree : gross (total f (span 0 n)) ≡ gross (total g (span 0 n))
   gross-agree = ap gross (total-agree (λ a. a) 0 n (omega arith))
 
-  zone-agree : (start many : ℕ) → start + many ≤ n → zoneOf f (span start many) ≡ zoneOf g (span start many)
-  zone-agree start many h = zone-same f g start many (λ k low high. agree.below k (omega arith))
+  zone_agree : (start many : ℕ) → start + many ≤ n → zone_of f (span start many) ≡ zone_of g (span start many)
+  zone_agree start many h = zone_same f g start many (λ k low high. agree.below k (omega arith))
 
   carry-agree : (s : Carried) (start many : ℕ) → start + many ≤ n → carry s f (span start many) ≡ carry s g (span start many)
   unfolding carry span
   carry-agree s start zero h = refl
   carry-agree s start (suc many) h =
-      ap (λ (band : Position). carry (toBand s band) f (span (suc start) many)) (agree.below start (omega arith))
-      ∙ carry-agree (toBand s (g start)) (suc start) many (omega arith)
+      ap (λ (band : Position). carry (to_band s band) f (span (suc start) many)) (agree.below start (omega arith))
+      ∙ carry-agree (to_band s (g start)) (suc start) many (omega arith)
 
-pub interest-agree : (p : Percents) {f g : Bands} → Agree 15 f g → interestFigures p f ≡ interestFigures p g
-interest-agree p {f} {g} agree =
+pub interest_agree : (p : Percents) {f g : Bands} → Agree 15 f g → interest_figures p f ≡ interest_figures p g
+interest_agree p {f} {g} agree =
     let same : matches zones f ≡ matches zones g =
     sym (matches-combined zones f refl refl refl)
-    ∙ matches-combined zones g (zone-agree agree 0 4 (omega arith)) (zone-agree agree 4 3 (omega arith)) (zone-agree agree 7 8 (omega arith)) in
+    ∙ matches-combined zones g (zone_agree agree 0 4 (omega arith)) (zone_agree agree 4 3 (omega arith)) (zone_agree agree 7 8 (omega arith)) in
     rw same
 
-pub commodity-agree : {f g : Bands} → Agree 7 f g → commodityFigures f ≡ commodityFigures g
-commodity-agree agree = ap carryFigures (carry-agree agree nothing 0 7 (omega arith))
+pub commodity-agree : {f g : Bands} → Agree 7 f g → commodity_figures f ≡ commodity_figures g
+commodity-agree agree = ap carry_figures (carry-agree agree nothing 0 7 (omega arith))
 
-pub absolutes-agree : {n : ℕ} {f g : Bands} → Agree n f g → absoluteNets (span 0 n) f ≡ absoluteNets (span 0 n) g
-absolutes-agree {n} agree = ap gross (total-agree agree net 0 n (omega arith))
+pub absolutes_agree : {n : ℕ} {f g : Bands} → Agree n f g → absolute_nets (span 0 n) f ≡ absolute_nets (span 0 n) g
+absolutes_agree {n} agree = ap gross (total-agree agree net 0 n (omega arith))
 
 pub shorthand-agree : {m : ℕ} {f g : Bands} → Agree (suc m) f g → shorthand (span 1 m) f ≡ shorthand (span 1 m) g
 shorthand-agree {m} agree = rw (total-agree agree net 1 m (omega arith), agree.below 0 (omega arith))
 
 pub simplified-agree : {n : ℕ} {f g : Bands} → Agree n f g → simplified (span 0 n) f ≡ simplified (span 0 n) g
-simplified-agree agree = rw (absolutes-agree agree, gross-agree agree)
+simplified-agree agree = rw (absolutes_agree agree, gross-agree agree)

@@ -5,156 +5,156 @@ use mathlib.Core.Path.{◌≡◌, ap, ◌∙◌, fun_ext}
 use mathlib.Core.List.{List, ◌++◌, map, Perm, Memᴰ}
 use native.Mathlib.Omega.{arith}
 use Rattle.sums.specs.Sums.{sum_of, sum_at}
-use Rattle.sums.proofs.Cases.{counted-times}
-use Rattle.sums.proofs.Sums.{sumOf-append, sumOf-permuted, sumOf-map, sumOf-plus, sumOf≤, sumAt-weighted}
+use Rattle.sums.proofs.Cases.{counted_times}
+use Rattle.sums.proofs.Sums.{sum_of_append, sum_of_permuted, sum_of_map, sum_of_plus, sum_of≤, sum_at_weighted}
 use Rattle.ladder.specs.Position.{Bands}
-use Rattle.ladder.specs.Table.{Table, weightIn}
-use Rattle.ladder.specs.Interest.{zones, charge, interestFigures}
-use Rattle.ladder.specs.Commodity.{CommodityFigures, commodityBands, commodityFigures}
-use Rattle.ladder.specs.Rows.{Reading, weighing, positionsBy, inGroup, ladderOf, groups_of, AtMostTwoZones}
-use Rattle.ladder.proofs.Matching.{same-position}
+use Rattle.ladder.specs.Table.{Table, weight_in}
+use Rattle.ladder.specs.Interest.{zones, charge, interest_figures}
+use Rattle.ladder.specs.Commodity.{CommodityFigures, commodity_bands, commodity_figures}
+use Rattle.ladder.specs.Rows.{Reading, weighing, positions_by, in_group, ladder_of, groups_of, AtMostTwoZones}
+use Rattle.ladder.proofs.Matching.{same_position}
 use Rattle.ladder.proofs.Totals.{◌⊞◌, mirror}
 use Rattle.ladder.proofs.Joined.{joined}
-use Rattle.ladder.proofs.Unused.{one-empty}
-use Rattle.ladder.proofs.Carrying.{carry-joined, carryFigures-mirrored}
+use Rattle.ladder.proofs.Unused.{one_empty}
+use Rattle.ladder.proofs.Carrying.{carry-joined, carry_figures-mirrored}
 use Rattle.ladder.proofs.Mirrored.{matches-mirrored}
 use Rattle.ladder.specs.Inner.Steps.{TableBounds}
 
 -- the bands times their weights
 abbrev pub weighted : Table → Bands → Bands
-weighted table f = λ k. record { long = weightIn table k * (f k).long; short = weightIn table k * (f k).short }
+weighted table f = λ k. record { long = weight_in table k * (f k).long; short = weight_in table k * (f k).short }
 
 -- the charge of a currency's weighted bands, and of a commodity's bands
-abbrev pub interestCharge : Table → Bands → ℕ
-interestCharge table f = (interestFigures table.percents f).charge
+abbrev pub interest_charge : Table → Bands → ℕ
+interest_charge table f = (interest_figures table.percents f).charge
 
-abbrev pub commodityCharge : Bands → ℕ
-commodityCharge f = (commodityFigures f).charge
+abbrev pub commodity_charge : Bands → ℕ
+commodity_charge f = (commodity_figures f).charge
 
 -- long and short exchanged in a row, and all else as it was
 pub record Exchanges {Row : Type 0} (read : Reading Row) (change : Row → Row) : Type 0 where
-  pub same-group : (row : Row) → read.group (change row) ≡ read.group row
-  pub same-band : (row : Row) → read.band (change row) ≡ read.band row
-  pub to-long : (row : Row) → read.long (change row) ≡ read.short row
-  pub to-short : (row : Row) → read.short (change row) ≡ read.long row
+  pub same_group : (row : Row) → read.group (change row) ≡ read.group row
+  pub same_band : (row : Row) → read.band (change row) ≡ read.band row
+  pub to_long : (row : Row) → read.long (change row) ≡ read.short row
+  pub to_short : (row : Row) → read.short (change row) ≡ read.long row
 
 -- weights keep a row's group and band, so mirrored rows stay mirrored
 pub weighing-exchanges : {Row : Type 0} {read : Reading Row} {change : Row → Row} (table : Table) → Exchanges read change → Exchanges (weighing table read) change
 weighing-exchanges table ex =
     record {
-      same-group = ex.same-group;
-      same-band = ex.same-band;
-      to-long = λ row. simp (ex.same-band, ex.to-long);
-      to-short = λ row. simp (ex.same-band, ex.to-short);
+      same_group = ex.same_group;
+      same_band = ex.same_band;
+      to_long = λ row. simp (ex.same_band, ex.to_long);
+      to_short = λ row. simp (ex.same_band, ex.to_short);
     }
 
 -- ---- the rows' positions by an index
 module _ {Row : Type 0} (index long short : Row → ℕ) where
-  positionsBy-append : (rows more : List Row) → positionsBy index long short (rows ++ more) ≡ positionsBy index long short rows ⊞ positionsBy index long short more
-  positionsBy-append rows more = fun_ext (λ k. same-position (sumOf-append _ rows more) (sumOf-append _ rows more))
+  positions_by_append : (rows more : List Row) → positions_by index long short (rows ++ more) ≡ positions_by index long short rows ⊞ positions_by index long short more
+  positions_by_append rows more = fun_ext (λ k. same_position (sum_of_append _ rows more) (sum_of_append _ rows more))
 
-  positionsBy-permuted : {rows rows' : List Row} → Perm rows rows' → positionsBy index long short rows ≡ positionsBy index long short rows'
-  positionsBy-permuted p = fun_ext (λ k. same-position (sumOf-permuted _ p) (sumOf-permuted _ p))
+  positions_by_permuted : {rows rows' : List Row} → Perm rows rows' → positions_by index long short rows ≡ positions_by index long short rows'
+  positions_by_permuted p = fun_ext (λ k. same_position (sum_of_permuted _ p) (sum_of_permuted _ p))
 
   -- rows changed so that each keeps its index and has long and short exchanged
-  positionsBy-mirrored : (change : Row → Row) → ((row : Row) → index (change row) ≡ index row)
+  positions_by_mirrored : (change : Row → Row) → ((row : Row) → index (change row) ≡ index row)
       → ((row : Row) → long (change row) ≡ short row) → ((row : Row) → short (change row) ≡ long row)
-      → (rows : List Row) → positionsBy index long short (map change rows) ≡ mirror (positionsBy index long short rows)
-  positionsBy-mirrored change stays longs shorts rows =
-      fun_ext (λ k. same-position (sumOf-map _ change rows ∙ simp (stays, longs)) (sumOf-map _ change rows ∙ simp (stays, shorts)))
+      → (rows : List Row) → positions_by index long short (map change rows) ≡ mirror (positions_by index long short rows)
+  positions_by_mirrored change stays longs shorts rows =
+      fun_ext (λ k. same_position (sum_of_map _ change rows ∙ simp (stays, longs)) (sum_of_map _ change rows ∙ simp (stays, shorts)))
 
 module _ {Row : Type 0} (read : Reading Row) where
   -- a row's amounts, on either side
-  abbrev pub amountOf : Row → ℕ
-  amountOf row = read.long row + read.short row
+  abbrev pub amount_of : Row → ℕ
+  amount_of row = read.long row + read.short row
 
   -- what all groups cost, each by its own ladder
   abbrev pub grouped : (Bands → ℕ) → List ℕ → List Row → ℕ
-  grouped cost groups rows = sum_of (λ g. cost (ladderOf read g rows)) groups
+  grouped cost groups rows = sum_of (λ g. cost (ladder_of read g rows)) groups
 
   -- ---- the ladder of a group
-  pub ladderOf-append : (g : ℕ) (rows more : List Row) → ladderOf read g (rows ++ more) ≡ ladderOf read g rows ⊞ ladderOf read g more
-  ladderOf-append g rows more = positionsBy-append read.band (inGroup read g read.long) (inGroup read g read.short) rows more
+  pub ladder_of_append : (g : ℕ) (rows more : List Row) → ladder_of read g (rows ++ more) ≡ ladder_of read g rows ⊞ ladder_of read g more
+  ladder_of_append g rows more = positions_by_append read.band (in_group read g read.long) (in_group read g read.short) rows more
 
-  pub ladderOf-permuted : (g : ℕ) {rows rows' : List Row} → Perm rows rows' → ladderOf read g rows ≡ ladderOf read g rows'
-  ladderOf-permuted g p = positionsBy-permuted read.band (inGroup read g read.long) (inGroup read g read.short) p
+  pub ladder_of_permuted : (g : ℕ) {rows rows' : List Row} → Perm rows rows' → ladder_of read g rows ≡ ladder_of read g rows'
+  ladder_of_permuted g p = positions_by_permuted read.band (in_group read g read.long) (in_group read g read.short) p
 
-  pub ladderOf-mirrored : (g : ℕ) (change : Row → Row) → Exchanges read change → (rows : List Row) → ladderOf read g (map change rows) ≡ mirror (ladderOf read g rows)
-  ladderOf-mirrored g change ex rows =
-      positionsBy-mirrored read.band (inGroup read g read.long) (inGroup read g read.short) change ex.same-band
-      (λ row. simp (ex.same-group, ex.to-long)) (λ row. simp (ex.same-group, ex.to-short)) rows
+  pub ladder_of_mirrored : (g : ℕ) (change : Row → Row) → Exchanges read change → (rows : List Row) → ladder_of read g (map change rows) ≡ mirror (ladder_of read g rows)
+  ladder_of_mirrored g change ex rows =
+      positions_by_mirrored read.band (in_group read g read.long) (in_group read g read.short) change ex.same_band
+      (λ row. simp (ex.same_group, ex.to_long)) (λ row. simp (ex.same_group, ex.to_short)) rows
 
   -- weights may be applied to the bands' sums
-  pub ladderOf-weighted : (table : Table) (g : ℕ) (rows : List Row) → ladderOf (weighing table read) g rows ≡ weighted table (ladderOf read g rows)
-  ladderOf-weighted table g rows = fun_ext (λ k. same-position (of k read.long) (of k read.short))
+  pub ladder_of_weighted : (table : Table) (g : ℕ) (rows : List Row) → ladder_of (weighing table read) g rows ≡ weighted table (ladder_of read g rows)
+  ladder_of_weighted table g rows = fun_ext (λ k. same_position (of k read.long) (of k read.short))
     where
       of : (k : ℕ) (amount : Row → ℕ)
-          → sum_at read.band (inGroup read g (λ row. weightIn table (read.band row) * amount row)) k rows
-          ≡ weightIn table k * sum_at read.band (inGroup read g amount) k rows
-      of k amount = simp counted-times (simp counted-times at (sumAt-weighted read.band (inGroup read g amount) (weightIn table) k rows))
+          → sum_at read.band (in_group read g (λ row. weight_in table (read.band row) * amount row)) k rows
+          ≡ weight_in table k * sum_at read.band (in_group read g amount) k rows
+      of k amount = simp counted_times (simp counted_times at (sum_at_weighted read.band (in_group read g amount) (weight_in table) k rows))
 
   -- ---- each group's net alone: equity and foreign exchange
-  pub groupsOf-append : (rows more : List Row) → groups_of read (rows ++ more) ≡ groups_of read rows ⊞ groups_of read more
-  groupsOf-append rows more = positionsBy-append read.group read.long read.short rows more
+  pub groups_of_append : (rows more : List Row) → groups_of read (rows ++ more) ≡ groups_of read rows ⊞ groups_of read more
+  groups_of_append rows more = positions_by_append read.group read.long read.short rows more
 
-  pub groupsOf-permuted : {rows rows' : List Row} → Perm rows rows' → groups_of read rows ≡ groups_of read rows'
-  groupsOf-permuted p = positionsBy-permuted read.group read.long read.short p
+  pub groups_of_permuted : {rows rows' : List Row} → Perm rows rows' → groups_of read rows ≡ groups_of read rows'
+  groups_of_permuted p = positions_by_permuted read.group read.long read.short p
 
-  pub groupsOf-mirrored : (change : Row → Row) → Exchanges read change → (rows : List Row) → groups_of read (map change rows) ≡ mirror (groups_of read rows)
-  groupsOf-mirrored change ex rows = positionsBy-mirrored read.group read.long read.short change ex.same-group ex.to-long ex.to-short rows
+  pub groups_of_mirrored : (change : Row → Row) → Exchanges read change → (rows : List Row) → groups_of read (map change rows) ≡ mirror (groups_of read rows)
+  groups_of_mirrored change ex rows = positions_by_mirrored read.group read.long read.short change ex.same_group ex.to_long ex.to_short rows
 
   pub nets-joined : (cost : Bands → ℕ) → ((f g : Bands) → cost (f ⊞ g) ≤ cost f + cost g) → (rows more : List Row)
       → cost (groups_of read (rows ++ more)) ≤ cost (groups_of read rows) + cost (groups_of read more)
-  nets-joined cost sub rows more = rw (groupsOf-append rows more) (sub _ _)
+  nets-joined cost sub rows more = rw (groups_of_append rows more) (sub _ _)
 
   pub nets-mirrored : (cost : Bands → ℕ) → ((f : Bands) → cost (mirror f) ≡ cost f) → (change : Row → Row) → Exchanges read change → (rows : List Row)
       → cost (groups_of read (map change rows)) ≡ cost (groups_of read rows)
-  nets-mirrored cost same change ex rows = ap cost (groupsOf-mirrored change ex rows) ∙ same (groups_of read rows)
+  nets-mirrored cost same change ex rows = ap cost (groups_of_mirrored change ex rows) ∙ same (groups_of read rows)
 
   -- ---- all groups: any cost of a group's ladder
-  grouped-joined : (cost : Bands → ℕ) (groups : List ℕ) (rows more : List Row)
-      → ((g : ℕ) → Memᴰ g groups → cost (ladderOf read g (rows ++ more)) ≤ cost (ladderOf read g rows) + cost (ladderOf read g more))
+  grouped_joined : (cost : Bands → ℕ) (groups : List ℕ) (rows more : List Row)
+      → ((g : ℕ) → Memᴰ g groups → cost (ladder_of read g (rows ++ more)) ≤ cost (ladder_of read g rows) + cost (ladder_of read g more))
       → grouped cost groups (rows ++ more) ≤ grouped cost groups rows + grouped cost groups more
-  grouped-joined cost groups rows more each =
-      let of : List Row → ℕ → ℕ = λ part g. cost (ladderOf read g part) in
-      omega (arith, sumOf≤ (of (rows ++ more)) (λ g. of rows g + of more g) groups each, sumOf-plus (of rows) (of more) groups)
+  grouped_joined cost groups rows more each =
+      let of : List Row → ℕ → ℕ = λ part g. cost (ladder_of read g part) in
+      omega (arith, sum_of≤ (of (rows ++ more)) (λ g. of rows g + of more g) groups each, sum_of_plus (of rows) (of more) groups)
 
-  pub grouped-permuted : (cost : Bands → ℕ) (groups : List ℕ) {rows rows' : List Row} → Perm rows rows' → grouped cost groups rows ≡ grouped cost groups rows'
-  grouped-permuted cost groups p = ap (λ (h : ℕ → ℕ). sum_of h groups) (fun_ext (λ g. ap cost (ladderOf-permuted g p)))
+  pub grouped_permuted : (cost : Bands → ℕ) (groups : List ℕ) {rows rows' : List Row} → Perm rows rows' → grouped cost groups rows ≡ grouped cost groups rows'
+  grouped_permuted cost groups p = ap (λ (h : ℕ → ℕ). sum_of h groups) (fun_ext (λ g. ap cost (ladder_of_permuted g p)))
 
-  pub grouped-mirrored : (cost : Bands → ℕ) → ((f : Bands) → cost (mirror f) ≡ cost f) → (groups : List ℕ)
+  pub grouped_mirrored : (cost : Bands → ℕ) → ((f : Bands) → cost (mirror f) ≡ cost f) → (groups : List ℕ)
       (change : Row → Row) → Exchanges read change → (rows : List Row) → grouped cost groups (map change rows) ≡ grouped cost groups rows
-  grouped-mirrored cost same groups change ex rows =
-      ap (λ (h : ℕ → ℕ). sum_of h groups) (fun_ext (λ g. ap cost (ladderOf-mirrored g change ex rows) ∙ same (ladderOf read g rows)))
+  grouped_mirrored cost same groups change ex rows =
+      ap (λ (h : ℕ → ℕ). sum_of h groups) (fun_ext (λ g. ap cost (ladder_of_mirrored g change ex rows) ∙ same (ladder_of read g rows)))
 
   -- ---- commodities
   pub commodity-joined : (groups : List ℕ) (rows more : List Row)
-      → grouped commodityCharge groups (rows ++ more) ≤ grouped commodityCharge groups rows + grouped commodityCharge groups more
+      → grouped commodity_charge groups (rows ++ more) ≤ grouped commodity_charge groups rows + grouped commodity_charge groups more
   commodity-joined groups rows more =
-      grouped-joined commodityCharge groups rows more (λ g m. rw (ladderOf-append g rows more) (carry-joined (ladderOf read g rows) (ladderOf read g more) commodityBands))
+      grouped_joined commodity_charge groups rows more (λ g m. rw (ladder_of_append g rows more) (carry-joined (ladder_of read g rows) (ladder_of read g more) commodity_bands))
 
   pub commodity-mirrored : (groups : List ℕ) (change : Row → Row) → Exchanges read change → (rows : List Row)
-      → grouped commodityCharge groups (map change rows) ≡ grouped commodityCharge groups rows
-  commodity-mirrored = grouped-mirrored commodityCharge (λ f. ap (λ (x : CommodityFigures). x.charge) (carryFigures-mirrored f commodityBands))
+      → grouped commodity_charge groups (map change rows) ≡ grouped commodity_charge groups rows
+  commodity-mirrored = grouped_mirrored commodity_charge (λ f. ap (λ (x : CommodityFigures). x.charge) (carry_figures-mirrored f commodity_bands))
 
 -- ---- interest, for every accepted table: one currency, and all
 module _ {Row : Type 0} (read : Reading Row) (table : Table) where
   pub currency-joined : TableBounds table → (g : ℕ) (rows more : List Row) → AtMostTwoZones read (rows ++ more) g
-      → interestCharge table (ladderOf (weighing table read) g (rows ++ more))
-      ≤ interestCharge table (ladderOf (weighing table read) g rows) + interestCharge table (ladderOf (weighing table read) g more)
+      → interest_charge table (ladder_of (weighing table read) g (rows ++ more))
+      ≤ interest_charge table (ladder_of (weighing table read) g rows) + interest_charge table (ladder_of (weighing table read) g more)
   currency-joined ok g rows more most =
-      let append = ladderOf-append (weighing table read) g rows more in
-      let empty-zone = one-empty read g (weighing table read).long (weighing table read).short (rows ++ more) most in
+      let append = ladder_of_append (weighing table read) g rows more in
+      let empty-zone = one_empty read g (weighing table read).long (weighing table read).short (rows ++ more) most in
       rw append (joined zones _ _ table.percents ok.percents (rw append at empty-zone))
 
-  pub general-joined : TableBounds table → (groups : List ℕ) (rows more : List Row) → ((g : ℕ) → Memᴰ g groups → AtMostTwoZones read (rows ++ more) g)
-      → grouped (weighing table read) (interestCharge table) groups (rows ++ more)
-      ≤ grouped (weighing table read) (interestCharge table) groups rows + grouped (weighing table read) (interestCharge table) groups more
-  general-joined ok groups rows more most =
-      grouped-joined (weighing table read) (interestCharge table) groups rows more (λ g m. currency-joined ok g rows more (most g m))
+  pub general_joined : TableBounds table → (groups : List ℕ) (rows more : List Row) → ((g : ℕ) → Memᴰ g groups → AtMostTwoZones read (rows ++ more) g)
+      → grouped (weighing table read) (interest_charge table) groups (rows ++ more)
+      ≤ grouped (weighing table read) (interest_charge table) groups rows + grouped (weighing table read) (interest_charge table) groups more
+  general_joined ok groups rows more most =
+      grouped_joined (weighing table read) (interest_charge table) groups rows more (λ g m. currency-joined ok g rows more (most g m))
 
-  pub general-mirrored : (groups : List ℕ) (change : Row → Row) → Exchanges read change → (rows : List Row)
-      → grouped (weighing table read) (interestCharge table) groups (map change rows) ≡ grouped (weighing table read) (interestCharge table) groups rows
-  general-mirrored groups change ex rows =
-      let same : (f : Bands) → interestCharge table (mirror f) ≡ interestCharge table f = λ f. ap (charge table.percents) (matches-mirrored f zones) in
-      grouped-mirrored (weighing table read) (interestCharge table) same groups change (weighing-exchanges table ex) rows
+  pub general_mirrored : (groups : List ℕ) (change : Row → Row) → Exchanges read change → (rows : List Row)
+      → grouped (weighing table read) (interest_charge table) groups (map change rows) ≡ grouped (weighing table read) (interest_charge table) groups rows
+  general_mirrored groups change ex rows =
+      let same : (f : Bands) → interest_charge table (mirror f) ≡ interest_charge table f = λ f. ap (charge table.percents) (matches-mirrored f zones) in
+      grouped_mirrored (weighing table read) (interest_charge table) same groups change (weighing-exchanges table ex) rows

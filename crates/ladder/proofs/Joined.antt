@@ -6,14 +6,14 @@ use mathlib.Core.Path.{◌≡◌, ap}
 use mathlib.Core.List.{List}
 use native.Mathlib.Nat.{mul-le-mul_left}
 use native.Mathlib.Omega.{arith}
-use Rattle.ladder.specs.Position.{Bands, gross, matched, absoluteNet, total, vertical, bandNets}
+use Rattle.ladder.specs.Position.{Bands, gross, matched, absolute_net, total, vertical, band_nets}
 use Rattle.ladder.specs.Table.{Percents, AcceptedPercents}
-use Rattle.ladder.specs.Interest.{Zones, zoneNet, zoneNets, matches, allBands}
-use Rattle.ladder.specs.Inner.Steps.{zonesGross}
-use Rattle.ladder.proofs.Matching.{takes-matched, takes-gross}
-use Rattle.ladder.proofs.Totals.{◌⊞◌, takes-vertical, zone-net, total-joined, bandNets-joined, absoluteNet-total-joined}
-use Rattle.ladder.proofs.AddsUp.{chargeOf, one-sided, three-verticals, zones-add-up, residual-is-whole-net}
-use Rattle.ladder.proofs.Spread.{spread, spread-is, without-first, without-second, without-third}
+use Rattle.ladder.specs.Interest.{Zones, zone_net, zone_nets, matches, all_bands}
+use Rattle.ladder.specs.Inner.Steps.{zones_gross}
+use Rattle.ladder.proofs.Matching.{takes_matched, takes_gross}
+use Rattle.ladder.proofs.Totals.{◌⊞◌, takes_vertical, zone_net_lem, total-joined, band_nets-joined, absolute_net-total_joined}
+use Rattle.ladder.proofs.AddsUp.{charge_of, one_sided, three_verticals, zones-add_up, residual_is_whole_net}
+use Rattle.ladder.proofs.Spread.{spread, spread_is, without_first, without_second, without_third}
 
 pub times : {x y : ℕ} (k : ℕ) → x ≡ y → k * x ≡ k * y
 times k h = ap (λ (n : ℕ). k * n) h
@@ -28,76 +28,76 @@ split {small} {large} x h =
     omega (arith, ap (λ (n : ℕ). n * x) parts)
 
 -- ---- a zone, with the per cents of its bands, of the zone, and across zones
-zoneCost : (bands zonal across : ℕ) → Bands → List ℕ → ℕ
-zoneCost bands zonal across f zone =
-    bands * gross (total f zone) + (zonal - bands) * gross (bandNets f zone) + (across - zonal) * absoluteNet (total f zone)
+zone_cost : (bands zonal across : ℕ) → Bands → List ℕ → ℕ
+zone_cost bands zonal across f zone =
+    bands * gross (total f zone) + (zonal - bands) * gross (band_nets f zone) + (across - zonal) * absolute_net (total f zone)
 
 module _ (bands zonal across : ℕ) (zone : List ℕ) where
-  zoneCost-is : (f : Bands) → bands ≤ zonal → zonal ≤ across
-      → zoneCost bands zonal across f zone ≡ 2 * (bands * vertical f zone + zonal * matched (bandNets f zone)) + across * gross (zoneNet f zone)
-  unfolding zoneCost
-  zoneCost-is f small large =
+  zone_cost_is : (f : Bands) → bands ≤ zonal → zonal ≤ across
+      → zone_cost bands zonal across f zone ≡ 2 * (bands * vertical f zone + zonal * matched (band_nets f zone)) + across * gross (zone_net f zone)
+  unfolding zone_cost
+  zone_cost_is f small large =
       omega (
         arith,
-        times bands (takes-gross (takes-vertical f zone)),
-        times zonal (takes-gross (takes-matched (bandNets f zone))),
-        times (across - zonal) (ap gross (zone-net f zone)),
-        split (gross (bandNets f zone)) small,
-        split (gross (zoneNet f zone)) large,
+        times bands (takes_gross (takes_vertical f zone)),
+        times zonal (takes_gross (takes_matched (band_nets f zone))),
+        times (across - zonal) (ap gross (zone_net_lem f zone)),
+        split (gross (band_nets f zone)) small,
+        split (gross (zone_net f zone)) large,
       )
 
-  zoneCost-joined : (f g : Bands) → zoneCost bands zonal across (f ⊞ g) zone ≤ zoneCost bands zonal across f zone + zoneCost bands zonal across g zone
-  unfolding zoneCost
-  zoneCost-joined f g =
-      let nets : gross (bandNets (f ⊞ g) zone) ≤ gross (bandNets f zone) + gross (bandNets g zone) = omega (arith, bandNets-joined f g zone) in
+  zone_cost_joined : (f g : Bands) → zone_cost bands zonal across (f ⊞ g) zone ≤ zone_cost bands zonal across f zone + zone_cost bands zonal across g zone
+  unfolding zone_cost
+  zone_cost_joined f g =
+      let nets : gross (band_nets (f ⊞ g) zone) ≤ gross (band_nets f zone) + gross (band_nets g zone) = omega (arith, band_nets-joined f g zone) in
       omega (
         arith,
         times bands (ap gross (total-joined f g zone)),
         times≤ (zonal - bands) _ _ nets,
-        times≤ (across - zonal) _ _ (absoluteNet-total-joined f g zone),
+        times≤ (across - zonal) _ _ (absolute_net-total_joined f g zone),
       )
 
 -- ---- the whole ladder
 module _ (p : Percents) (z : Zones) where
-  pub ladderCost : Bands → ℕ
-  ladderCost f =
-      zoneCost p.vertical p.zone1 p.adjacent f z.first
-      + zoneCost p.vertical p.zone2 p.adjacent f z.second
-      + zoneCost p.vertical p.zone3 p.adjacent f z.third
+  pub ladder_cost : Bands → ℕ
+  ladder_cost f =
+      zone_cost p.vertical p.zone1 p.adjacent f z.first
+      + zone_cost p.vertical p.zone2 p.adjacent f z.second
+      + zone_cost p.vertical p.zone3 p.adjacent f z.third
 
-  pub ladderCost-joined : (f g : Bands) → ladderCost (f ⊞ g) ≤ ladderCost f + ladderCost g
-  unfolding ladderCost
-  ladderCost-joined f g =
+  pub ladder_cost_joined : (f g : Bands) → ladder_cost (f ⊞ g) ≤ ladder_cost f + ladder_cost g
+  unfolding ladder_cost
+  ladder_cost_joined f g =
       omega (
         arith,
-        zoneCost-joined p.vertical p.zone1 p.adjacent z.first f g,
-        zoneCost-joined p.vertical p.zone2 p.adjacent z.second f g,
-        zoneCost-joined p.vertical p.zone3 p.adjacent z.third f g,
+        zone_cost_joined p.vertical p.zone1 p.adjacent z.first f g,
+        zone_cost_joined p.vertical p.zone2 p.adjacent z.second f g,
+        zone_cost_joined p.vertical p.zone3 p.adjacent z.third f g,
       )
 
   module _ (ok : AcceptedPercents p) (f : Bands) where
-    twice-zones : 2 * (p.vertical * (matches z f).vertical + (p.zone1 * (matches z f).zone1 + p.zone2 * (matches z f).zone2 + p.zone3 * (matches z f).zone3))
-        + p.adjacent * zonesGross (zoneNets z f)
-        ≡ ladderCost f
-    unfolding ladderCost matches
-    twice-zones =
+    twice_zones : 2 * (p.vertical * (matches z f).vertical + (p.zone1 * (matches z f).zone1 + p.zone2 * (matches z f).zone2 + p.zone3 * (matches z f).zone3))
+        + p.adjacent * zones_gross (zone_nets z f)
+        ≡ ladder_cost f
+    unfolding ladder_cost matches
+    twice_zones =
         omega (
           arith,
-          zoneCost-is p.vertical p.zone1 p.adjacent z.first f ok.vertical≤1 ok.zone1≤,
-          zoneCost-is p.vertical p.zone2 p.adjacent z.second f ok.vertical≤2 ok.zone2≤,
-          zoneCost-is p.vertical p.zone3 p.adjacent z.third f ok.vertical≤3 ok.zone3≤,
-          times p.vertical (three-verticals z f),
+          zone_cost_is p.vertical p.zone1 p.adjacent z.first f ok.vertical≤1 ok.zone1≤,
+          zone_cost_is p.vertical p.zone2 p.adjacent z.second f ok.vertical≤2 ok.zone2≤,
+          zone_cost_is p.vertical p.zone3 p.adjacent z.third f ok.vertical≤3 ok.zone3≤,
+          times p.vertical (three_verticals z f),
         )
 
     -- whatever zones are used
-    pub twice-charge : 2 * chargeOf p z f ≡ ladderCost f + (200 - p.apart) * (matches z f).residual + (p.apart - p.adjacent) * spread (zoneNets z f)
+    pub twice_charge : 2 * charge_of p z f ≡ ladder_cost f + (200 - p.apart) * (matches z f).residual + (p.apart - p.adjacent) * spread (zone_nets z f)
     unfolding matches
-    twice-charge =
+    twice_charge =
         omega (
           arith,
-          twice-zones,
-          times p.adjacent (zones-add-up z f),
-          times (p.apart - p.adjacent) (spread-is (zoneNets z f) (one-sided z f)),
+          twice_zones,
+          times p.adjacent (zones-add_up z f),
+          times (p.apart - p.adjacent) (spread_is (zone_nets z f) (one_sided z f)),
           split {small = p.apart} {large = 200} (matches z f).residual (omega arith),
           split {small = p.adjacent} {large = p.apart} (matches z f).residual (omega arith),
           split {small = p.adjacent} {large = p.apart} (matches z f).zones13 (omega arith),
@@ -108,43 +108,43 @@ module _ (p : Percents) (z : Zones) where
 pub data OneEmpty (z : Zones) (f : Bands) : Type 0 where
   first-empty : gross (total f z.first) ≡ 0 → OneEmpty z f
   second_empty : gross (total f z.second) ≡ 0 → OneEmpty z f
-  third-empty : gross (total f z.third) ≡ 0 → OneEmpty z f
+  third_empty : gross (total f z.third) ≡ 0 → OneEmpty z f
 
-empty-net : (f : Bands) (zone : List ℕ) → gross (total f zone) ≡ 0 → gross (zoneNet f zone) ≡ 0
-empty-net f zone none = omega (arith, ap gross (zone-net f zone), takes-gross (takes-matched (total f zone)))
+empty-net : (f : Bands) (zone : List ℕ) → gross (total f zone) ≡ 0 → gross (zone_net f zone) ≡ 0
+empty-net f zone none = omega (arith, ap gross (zone_net_lem f zone), takes_gross (takes_matched (total f zone)))
 
 module _ (z : Zones) (f g : Bands) where
-  residual-joined : (matches z (f ⊞ g)).residual ≤ (matches z f).residual + (matches z g).residual
-  residual-joined =
-      rw (residual-is-whole-net z (f ⊞ g), residual-is-whole-net z f, residual-is-whole-net z g) (absoluteNet-total-joined f g (allBands z))
+  residual_joined : (matches z (f ⊞ g)).residual ≤ (matches z f).residual + (matches z g).residual
+  residual_joined =
+      rw (residual_is_whole_net z (f ⊞ g), residual_is_whole_net z f, residual_is_whole_net z g) (absolute_net-total_joined f g (all_bands z))
 
   -- a zone that is empty in the sum is so in both, and the spread is then something that is subadditive
-  spread-by : (zone : List ℕ) (size : Bands → ℕ) → ((h : Bands) → gross (total h zone) ≡ 0 → spread (zoneNets z h) ≡ size h)
+  spread_by : (zone : List ℕ) (size : Bands → ℕ) → ((h : Bands) → gross (total h zone) ≡ 0 → spread (zone_nets z h) ≡ size h)
       → size (f ⊞ g) ≤ size f + size g → gross (total (f ⊞ g) zone) ≡ 0
-      → spread (zoneNets z (f ⊞ g)) ≤ spread (zoneNets z f) + spread (zoneNets z g)
-  spread-by zone size is sub none =
+      → spread (zone_nets z (f ⊞ g)) ≤ spread (zone_nets z f) + spread (zone_nets z g)
+  spread_by zone size is sub none =
       let both = ap gross (total-joined f g zone) in
       omega (arith, is (f ⊞ g) none, is f (omega arith), is g (omega arith))
 
-  spread-joined : OneEmpty z (f ⊞ g) → spread (zoneNets z (f ⊞ g)) ≤ spread (zoneNets z f) + spread (zoneNets z g)
+  spread_joined : OneEmpty z (f ⊞ g) → spread (zone_nets z (f ⊞ g)) ≤ spread (zone_nets z f) + spread (zone_nets z g)
   unfolding matches
-  spread-joined (first-empty none) =
-      spread-by z.first (λ h. (matches z h).residual) (λ h e. without-first (zoneNets z h) (one-sided z h) (empty-net h z.first e)) residual-joined none
-  spread-joined (second_empty none) =
-      spread-by z.second (λ h. absoluteNet (total h z.first) + absoluteNet (total h z.third))
-      (λ h e. omega (arith, without-second (zoneNets z h) (empty-net h z.second e), ap gross (zone-net h z.first), ap gross (zone-net h z.third)))
-      (omega (arith, absoluteNet-total-joined f g z.first, absoluteNet-total-joined f g z.third)) none
-  spread-joined (third-empty none) =
-      spread-by z.third (λ h. (matches z h).residual) (λ h e. without-third (zoneNets z h) (one-sided z h) (empty-net h z.third e)) residual-joined none
+  spread_joined (first-empty none) =
+      spread_by z.first (λ h. (matches z h).residual) (λ h e. without_first (zone_nets z h) (one_sided z h) (empty-net h z.first e)) residual_joined none
+  spread_joined (second_empty none) =
+      spread_by z.second (λ h. absolute_net (total h z.first) + absolute_net (total h z.third))
+      (λ h e. omega (arith, without_second (zone_nets z h) (empty-net h z.second e), ap gross (zone_net_lem h z.first), ap gross (zone_net_lem h z.third)))
+      (omega (arith, absolute_net-total_joined f g z.first, absolute_net-total_joined f g z.third)) none
+  spread_joined (third_empty none) =
+      spread_by z.third (λ h. (matches z h).residual) (λ h e. without_third (zone_nets z h) (one_sided z h) (empty-net h z.third e)) residual_joined none
 
-  pub joined : (p : Percents) → AcceptedPercents p → OneEmpty z (f ⊞ g) → chargeOf p z (f ⊞ g) ≤ chargeOf p z f + chargeOf p z g
-  joined p ok one-empty =
-      let twice : 2 * chargeOf p z (f ⊞ g) ≤ 2 * chargeOf p z f + 2 * chargeOf p z g =
-      rw (twice-charge p z ok (f ⊞ g), twice-charge p z ok f, twice-charge p z ok g)
+  pub joined : (p : Percents) → AcceptedPercents p → OneEmpty z (f ⊞ g) → charge_of p z (f ⊞ g) ≤ charge_of p z f + charge_of p z g
+  joined p ok one_empty =
+      let twice : 2 * charge_of p z (f ⊞ g) ≤ 2 * charge_of p z f + 2 * charge_of p z g =
+      rw (twice_charge p z ok (f ⊞ g), twice_charge p z ok f, twice_charge p z ok g)
       (omega (
         arith,
-        ladderCost-joined p z f g,
-        times≤ (200 - p.apart) _ _ residual-joined,
-        times≤ (p.apart - p.adjacent) _ _ (spread-joined one-empty),
+        ladder_cost_joined p z f g,
+        times≤ (200 - p.apart) _ _ residual_joined,
+        times≤ (p.apart - p.adjacent) _ _ (spread_joined one_empty),
       )) in
       omega arith

@@ -2,22 +2,22 @@
 -- Assumes nothing.
 use Prim.Native.Nat.{ℕ, ◌+◌, ◌*◌}
 use mathlib.Core.Path.{◌≡◌}
-use Rattle.ladder.specs.Position.{Position, ◌⊕◌, gross, absoluteNet}
+use Rattle.ladder.specs.Position.{Position, ◌⊕◌, gross, absolute_net}
 use Rattle.ladder.specs.Table.{Percents}
 use Rattle.ladder.specs.Interest.{Ladder, LadderStep, Crossing, Matches, together, crossing, zones12, zones23, zones13, charge}
-use Rattle.ladder.specs.Inner.Steps.{PositionStep, ZonesStep, Zone, netStep, bandStep, zonesStep, combined}
+use Rattle.ladder.specs.Inner.Steps.{PositionStep, ZonesStep, Zone, net_step, band_step, zones_step, combined}
 
 -- two steps that leave the same and match the same are equal
 pub same_step : {a b : PositionStep} → a.left ≡ b.left → a.matched ≡ b.matched → a ≡ b
 same_step p q = λ i. record { left = p i; matched = q i }
 
 -- ---- the steps, one after the other
-pub band-in-steps : (nets band : Position) {own : PositionStep} {left : Position} → own ≡ netStep band → left ≡ nets ⊕ own.left
-    → ◌≡◌ {A = PositionStep} (record { left = left; matched = own.matched }) (bandStep nets band)
-unfolding netStep bandStep
-band-in-steps nets band is joined = cc
+pub band_in_steps : (nets band : Position) {own : PositionStep} {left : Position} → own ≡ net_step band → left ≡ nets ⊕ own.left
+    → ◌≡◌ {A = PositionStep} (record { left = left; matched = own.matched }) (band_step nets band)
+unfolding net_step band_step
+band_in_steps nets band is joined = cc
 
-pub within-in-steps : (x : Ladder) {one two three : PositionStep} → one ≡ netStep x.zone1 → two ≡ netStep x.zone2 → three ≡ netStep x.zone3
+pub within_in_steps : (x : Ladder) {one two three : PositionStep} → one ≡ net_step x.zone1 → two ≡ net_step x.zone2 → three ≡ net_step x.zone3
     → ◌≡◌ {A = ZonesStep}
     (record {
       left = record { zone1 = one.left; zone2 = two.left; zone3 = three.left };
@@ -25,23 +25,23 @@ pub within-in-steps : (x : Ladder) {one two three : PositionStep} → one ≡ ne
       zone2 = two.matched;
       zone3 = three.matched;
     })
-    (zonesStep x)
-unfolding netStep zonesStep
-within-in-steps x is1 is2 is3 = cc
+    (zones_step x)
+unfolding net_step zones_step
+within_in_steps x is1 is2 is3 = cc
 
-pub residual-in-steps : (x : Ladder) {far all : Position} {end : PositionStep} → far ≡ x.zone2 ⊕ x.zone3 → all ≡ x.zone1 ⊕ far → end ≡ netStep all
-    → gross end.left ≡ absoluteNet (together x)
-unfolding netStep
-residual-in-steps x joined whole is = cc
+pub residual_in_steps : (x : Ladder) {far all : Position} {end : PositionStep} → far ≡ x.zone2 ⊕ x.zone3 → all ≡ x.zone1 ⊕ far → end ≡ net_step all
+    → gross end.left ≡ absolute_net (together x)
+unfolding net_step
+residual_in_steps x joined whole is = cc
 
-pub cross-in-steps : (x : Ladder) {step12 step23 step13 : LadderStep} {residual : ℕ}
-    → step12 ≡ zones12 x → step23 ≡ zones23 step12.left → step13 ≡ zones13 step23.left → residual ≡ absoluteNet (together step13.left)
+pub cross_in_steps : (x : Ladder) {step12 step23 step13 : LadderStep} {residual : ℕ}
+    → step12 ≡ zones12 x → step23 ≡ zones23 step12.left → step13 ≡ zones13 step23.left → residual ≡ absolute_net (together step13.left)
     → ◌≡◌ {A = Crossing} (record { zones12 = step12.matched; zones23 = step23.matched; zones13 = step13.matched; residual = residual }) (crossing x)
 unfolding crossing
-cross-in-steps x is12 is23 is13 end = cc
+cross_in_steps x is12 is23 is13 end = cc
 
-pub combine-in-steps : (a b c : Zone) {step : ZonesStep} {across : Crossing}
-    → step ≡ zonesStep (record { zone1 = a.nets; zone2 = b.nets; zone3 = c.nets }) → across ≡ crossing step.left
+pub combine_in_steps : (a b c : Zone) {step : ZonesStep} {across : Crossing}
+    → step ≡ zones_step (record { zone1 = a.nets; zone2 = b.nets; zone3 = c.nets }) → across ≡ crossing step.left
     → ◌≡◌ {A = Matches}
     (record {
       gross = a.gross + b.gross + c.gross;
@@ -56,10 +56,10 @@ pub combine-in-steps : (a b c : Zone) {step : ZonesStep} {across : Crossing}
     })
     (combined a b c)
 unfolding combined
-combine-in-steps a b c is crossed = cc
+combine_in_steps a b c is crossed = cc
 
-pub charge-in-steps : (p : Percents) (m : Matches) {bands one two three near mid far : ℕ}
+pub charge-in_steps : (p : Percents) (m : Matches) {bands one two three near mid far : ℕ}
     → bands ≡ p.vertical * m.vertical → one ≡ p.zone1 * m.zone1 → two ≡ p.zone2 * m.zone2 → three ≡ p.zone3 * m.zone3
     → near ≡ p.adjacent * m.zones12 → mid ≡ p.adjacent * m.zones23 → far ≡ p.apart * m.zones13
     → bands + (one + two + three) + (near + mid + far) + 100 * m.residual ≡ charge p m
-charge-in-steps p m is-bands is1 is2 is3 is12 is23 is13 = rw (is-bands, is1, is2, is3, is12, is23, is13)
+charge-in_steps p m is-bands is1 is2 is3 is12 is23 is13 = rw (is-bands, is1, is2, is3, is12, is23, is13)

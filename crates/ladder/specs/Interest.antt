@@ -1,7 +1,7 @@
 -- The interest ladder: bands, zones, zones against one another, and the charge. It gives the figures of the ladder call.
 use Rattle.std.specs.Prelude.{ℕ, ◌+◌, ◌-◌, ◌*◌, min, List, ◌++◌}
 use Rattle.sums.specs.Sums.{span}
-use Rattle.ladder.specs.Position.{Position, Bands, ◌⊕◌, gross, matched, net, absoluteNet, total, vertical, bandNets}
+use Rattle.ladder.specs.Position.{Position, Bands, ◌⊕◌, gross, matched, net, absolute_net, total, vertical, band_nets}
 use Rattle.ladder.specs.Table.{Percents}
 pub use Rattle.ladder.specs.declared.zones.Ladder.{Ladder}
 pub use Rattle.ladder.specs.declared.zones.LadderStep.{LadderStep}
@@ -56,7 +56,7 @@ crossing x =
       zones12 = step12.matched;
       zones23 = step23.matched;
       zones13 = step13.matched;
-      residual = absoluteNet (together step13.left);
+      residual = absolute_net (together step13.left);
     }
 
 -- ---- the whole ladder
@@ -71,27 +71,27 @@ abbrev pub zones : Zones
 zones = record { first = span 0 4; second = span 4 3; third = span 7 8 }
 
 -- the bands of the three zones (document 01, Interest: bands and zones)
-abbrev pub allBands : Zones → List ℕ
-allBands z = z.first ++ (z.second ++ z.third)
+abbrev pub all_bands : Zones → List ℕ
+all_bands z = z.first ++ (z.second ++ z.third)
 
 -- in a zone the band nets, all longs against all shorts, leave this (document 01, Interest: bands and zones, step 2)
-abbrev pub zoneNet : Bands → List ℕ → Position
-zoneNet f zone = net (bandNets f zone)
+abbrev pub zone_net : Bands → List ℕ → Position
+zone_net f zone = net (band_nets f zone)
 
 -- the three zones after step 2 (document 01, Interest: bands and zones)
-abbrev pub zoneNets : Zones → Bands → Ladder
-zoneNets z f = record { zone1 = zoneNet f z.first; zone2 = zoneNet f z.second; zone3 = zoneNet f z.third }
+abbrev pub zone_nets : Zones → Bands → Ladder
+zone_nets z f = record { zone1 = zone_net f z.first; zone2 = zone_net f z.second; zone3 = zone_net f z.third }
 
 -- gross, the match of each of the four steps, and the residual (document 01, Interest: bands and zones)
 unfoldable pub matches : Zones → Bands → Matches
 matches z f =
-    let across = crossing (zoneNets z f) in
+    let across = crossing (zone_nets z f) in
     record {
-      gross = gross (total f (allBands z));
-      vertical = vertical f (allBands z);
-      zone1 = matched (bandNets f z.first);
-      zone2 = matched (bandNets f z.second);
-      zone3 = matched (bandNets f z.third);
+      gross = gross (total f (all_bands z));
+      vertical = vertical f (all_bands z);
+      zone1 = matched (band_nets f z.first);
+      zone2 = matched (band_nets f z.second);
+      zone3 = matched (band_nets f z.third);
       zones12 = across.zones12;
       zones23 = across.zones23;
       zones13 = across.zones13;
@@ -99,8 +99,8 @@ matches z f =
     }
 
 -- the match sums together, each match counted on one side (P8)
-abbrev pub matchSum : Matches → ℕ
-matchSum m = m.vertical + m.zone1 + m.zone2 + m.zone3 + m.zones12 + m.zones23 + m.zones13
+abbrev pub match_sum : Matches → ℕ
+match_sum m = m.vertical + m.zone1 + m.zone2 + m.zone3 + m.zones12 + m.zones23 + m.zones13
 
 -- the charge in mils: a per cent of a weighted position is one mil, and the residual bears 100% (document 01, Interest: bands and zones)
 abbrev pub charge : Percents → Matches → ℕ
@@ -110,5 +110,5 @@ charge p m =
     + 100 * m.residual
 
 -- the figures of one currency, from its weighted bands (document 01, Interest: bands and zones)
-abbrev pub interestFigures : Percents → Bands → InterestFigures
-interestFigures p f = record { matches = matches zones f; charge = charge p (matches zones f) }
+abbrev pub interest_figures : Percents → Bands → InterestFigures
+interest_figures p f = record { matches = matches zones f; charge = charge p (matches zones f) }

@@ -25,16 +25,16 @@ unfolding matched
 net a = record { long = a.long - matched a; short = a.short - matched a }
 
 -- the absolute net (document 01, Equity and foreign exchange)
-abbrev pub absoluteNet : Position → ℕ
-absoluteNet a = gross (net a)
+abbrev pub absolute_net : Position → ℕ
+absolute_net a = gross (net a)
 
 -- the position at each band's number; a zone, or a whole ladder, is a list of band numbers (document 01, Interest: bands and zones)
 abbrev pub Bands : Type 0
 Bands = ℕ → Position
 
 -- a position in one band alone (P13)
-abbrev pub atBand : ℕ → Position → Bands
-atBand band position = λ k. cond (eqb band k) position empty
+abbrev pub at_band : ℕ → Position → Bands
+at_band band position = λ k. cond (eqb band k) position empty
 
 -- the bands of a zone put together (document 01, Interest: bands and zones)
 unfoldable pub total : Bands → List ℕ → Position
@@ -47,5 +47,5 @@ vertical f [] = 0
 vertical f (k ∷ zone) = matched (f k) + vertical f zone
 
 -- and the band nets of a zone put together (document 01, Interest: bands and zones, step 2)
-abbrev pub bandNets : Bands → List ℕ → Position
-bandNets f zone = total (λ k. net (f k)) zone
+abbrev pub band_nets : Bands → List ℕ → Position
+band_nets f zone = total (λ k. net (f k)) zone

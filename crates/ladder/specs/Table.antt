@@ -4,12 +4,12 @@ pub use Rattle.ladder.specs.declared.Percents.{Percents}
 pub use Rattle.ladder.specs.declared.Table.{Table}
 
 -- the weight of a band (document 01, Interest: bands and zones; P10)
-unfoldable pub weightIn : Table → ℕ → ℕ
-weightIn table band = get_or table.weights band 0
+unfoldable pub weight_in : Table → ℕ → ℕ
+weight_in table band = get_or table.weights band 0
 
 -- no weight is above this (P10)
-abbrev pub mostWeight : ℕ
-mostWeight = 2000
+abbrev pub most_weight : ℕ
+most_weight = 2000
 
 -- vertical at most each zone's, these at most adjacent, that at most apart, and that at most 100 (P10)
 pub record AcceptedPercents (p : Percents) : Type 0 where

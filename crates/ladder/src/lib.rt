@@ -8,10 +8,10 @@ ghost use Rattle.std.specs.Prelude.{◌≡◌, ◌∷◌, ◌+◌, ◌*◌, ◌�
 ghost use Rattle.sums.specs.Sums.{span};
 ghost use Rattle.ladder.specs.Position.{gross, total};
 ghost use Rattle.ladder.specs.Table.{AcceptedPercents};
-ghost use Rattle.ladder.specs.Interest.{charge, allBands, zones};
-ghost use Rattle.ladder.specs.Commodity.{commodityBands};
-ghost use Rattle.ladder.specs.Nets.{absoluteNets, shorthand, simplified};
-ghost use Rattle.ladder.specs.Inner.Steps.{limit, commodityLimit, bands, InterestOf, CommodityOf, NetsOf};
+ghost use Rattle.ladder.specs.Interest.{charge, all_bands, zones};
+ghost use Rattle.ladder.specs.Commodity.{commodity_bands};
+ghost use Rattle.ladder.specs.Nets.{absolute_nets, shorthand, simplified};
+ghost use Rattle.ladder.specs.Inner.Steps.{limit, commodity_limit, bands, InterestOf, CommodityOf, NetsOf};
 
 use crate::positions::Position;
 use crate::zones::Matches;
@@ -83,7 +83,7 @@ impl Percents {
 // The interest ladder of one currency, from the weighted longs and shorts of its bands.
 pub fn interest(longs: &[u64; BANDS], shorts: &[u64; BANDS], percents: Percents) -> InterestFigures
     requires accepted_percents { AcceptedPercents percents }
-    requires zones_bound { gross (total (bands longs.now shorts.now) (allBands zones)) ≤ limit }
+    requires zones_bound { gross (total (bands longs.now shorts.now) (all_bands zones)) ≤ limit }
     ensures { InterestOf percents (bands longs.now shorts.now) result }
 {
     whole::gather(longs, shorts).figures(percents)
@@ -95,7 +95,7 @@ pub fn commodity(
     longs: &[u64; COMMODITY_BANDS],
     shorts: &[u64; COMMODITY_BANDS],
 ) -> CommodityFigures
-    requires { gross (total (bands longs.now shorts.now) commodityBands) ≤ commodityLimit }
+    requires { gross (total (bands longs.now shorts.now) commodity_bands) ≤ commodity_limit }
     ensures { CommodityOf (bands longs.now shorts.now) result }
 {
     let mut matches: u64 = 0;
@@ -125,7 +125,7 @@ pub fn commodity(
 pub fn absolute_nets(longs: &[u64], shorts: &[u64], many: usize) -> u64
     requires many_in_bounds { (many ≤ length longs.now) × (many ≤ length shorts.now) }
     requires many_bound { gross (total (bands longs.now shorts.now) (span 0 many)) ≤ limit }
-    ensures { NetsOf (bands longs.now shorts.now) (span 0 many) (absoluteNets (span 0 many)) result }
+    ensures { NetsOf (bands longs.now shorts.now) (span 0 many) (absolute_nets (span 0 many)) result }
 {
     let nets = bands::zone_of(longs, shorts, 0, many).nets;
     nets.long + nets.short
@@ -156,7 +156,7 @@ pub fn shorthand(longs: &[u64], shorts: &[u64], many: usize) -> u64
 // Commodities by the simplified approach: 15% of the absolute net of each of so many commodities and 3% of its gross, in mils.
 pub fn simplified(longs: &[u64], shorts: &[u64], many: usize) -> u64
     requires many_in_bounds { (many ≤ length longs.now) × (many ≤ length shorts.now) }
-    requires many_bound { gross (total (bands longs.now shorts.now) (span 0 many)) ≤ commodityLimit }
+    requires many_bound { gross (total (bands longs.now shorts.now) (span 0 many)) ≤ commodity_limit }
     ensures { result ≡ simplified (span 0 many) (bands longs.now shorts.now) }
 {
     let all = bands::zone_of(longs, shorts, 0, many);

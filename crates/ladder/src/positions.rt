@@ -1,7 +1,7 @@
 // A position is long and short; a step matches the smaller of the opposite sides and carries on with the net.
 ghost use Rattle.std.specs.Prelude.{◌≡◌, ◌+◌, ◌≤◌, min};
 ghost use Rattle.ladder.specs.Position.{◌⊕◌, gross};
-ghost use Rattle.ladder.specs.Inner.Steps.{limit, NetStep, netStep, bandStep, carriedStep, Offsets};
+ghost use Rattle.ladder.specs.Inner.Steps.{limit, NetStep, net_step, band_step, carried_step, Offsets};
 
 #[derive(Drop)]
 pub struct Position {
@@ -43,7 +43,7 @@ impl Position {
 
     // All longs against all shorts.
     pub fn net(self) -> PositionStep
-        ensures { NetStep self (netStep self) result }
+        ensures { NetStep self (net_step self) result }
     {
         let m = least(self.long, self.short);
         PositionStep {
@@ -58,7 +58,7 @@ impl Position {
     // The nets of a zone's bands so far, and one band more: its longs against its shorts.
     pub fn with_band(self, band: Position) -> PositionStep
         requires { gross self + gross band ≤ limit }
-        ensures { NetStep (self ⊕ band) (bandStep self band) result }
+        ensures { NetStep (self ⊕ band) (band_step self band) result }
     {
         let own = band.net();
         PositionStep {
@@ -70,7 +70,7 @@ impl Position {
     // What is carried into a commodity's band joins its side, and longs are matched against shorts.
     pub fn carry(self, band: Position) -> PositionStep
         requires { gross self + gross band ≤ limit }
-        ensures { NetStep (self ⊕ band) (carriedStep self band) result }
+        ensures { NetStep (self ⊕ band) (carried_step self band) result }
     {
         self.add(band).net()
     }

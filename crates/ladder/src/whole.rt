@@ -2,8 +2,8 @@
 ghost use Rattle.std.specs.Prelude.{◌≡◌, ◌≤◌};
 ghost use Rattle.ladder.specs.Position.{gross, total};
 ghost use Rattle.ladder.specs.Table.{AcceptedPercents};
-ghost use Rattle.ladder.specs.Interest.{allBands, zones as threeZones};
-ghost use Rattle.ladder.specs.Inner.Steps.{limit, bands as bandsIn, GatheredOf, CanGather, Summed, gatheredWith, gatheredFigures};
+ghost use Rattle.ladder.specs.Interest.{all_bands, zones as three_zones};
+ghost use Rattle.ladder.specs.Inner.Steps.{limit, bands as bands_in, GatheredOf, CanGather, Summed, gathered_with, gathered_figures};
 
 use crate::bands::Zone;
 use crate::positions::Position;
@@ -19,8 +19,8 @@ pub struct Gathered {
 
 // The zones of a ladder, from the weighted longs and shorts of its bands.
 pub fn gather(longs: &[u64; BANDS], shorts: &[u64; BANDS]) -> Gathered
-    requires { gross (total (bandsIn longs.now shorts.now) (allBands threeZones)) ≤ limit }
-    ensures { GatheredOf (bandsIn longs.now shorts.now) result }
+    requires { gross (total (bands_in longs.now shorts.now) (all_bands three_zones)) ≤ limit }
+    ensures { GatheredOf (bands_in longs.now shorts.now) result }
 {
     let first = bands::zone_of(longs, shorts, 0, 4);
     let second = bands::zone_of(longs, shorts, 4, 3);
@@ -36,7 +36,7 @@ impl Gathered {
     // A position more in one band, of which these zones have nothing yet.
     pub fn with_band(self, band: usize, position: Position) -> Gathered
         requires { CanGather self position }
-        ensures { (result ≡ gatheredWith self band position) × Summed result }
+        ensures { (result ≡ gathered_with self band position) × Summed result }
     {
         let first = self.first;
         let second = self.second;
@@ -65,7 +65,7 @@ impl Gathered {
     // The figures of the ladder: each zone within itself, the zones against one another, and the charge.
     pub fn figures(self, percents: Percents) -> InterestFigures
         requires { AcceptedPercents percents × Summed self }
-        ensures { result ≡ gatheredFigures percents self }
+        ensures { result ≡ gathered_figures percents self }
     {
         let matches = zones::combine(self.first, self.second, self.third);
         InterestFigures {

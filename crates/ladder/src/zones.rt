@@ -1,8 +1,8 @@
 // The three zones of the interest ladder against one another: what is left of them, step by step.
 ghost use Rattle.std.specs.Prelude.{◌≡◌, ◌+◌, ◌≤◌};
-ghost use Rattle.ladder.specs.Position.{gross, absoluteNet};
+ghost use Rattle.ladder.specs.Position.{gross, absolute_net};
 ghost use Rattle.ladder.specs.Interest.{together, zones12, zones23, zones13, crossing};
-ghost use Rattle.ladder.specs.Inner.Steps.{limit, zonesGross, LadderStepOf, ZonesStepOf, combined};
+ghost use Rattle.ladder.specs.Inner.Steps.{limit, zones_gross, LadderStepOf, ZonesStepOf, combined};
 
 use crate::bands::Zone;
 use crate::positions::Position;
@@ -93,7 +93,7 @@ impl Ladder {
 
     // Zone 1 against zone 2.
     pub fn zones12(self) -> LadderStep
-        requires { zonesGross self ≤ limit }
+        requires { zones_gross self ≤ limit }
         ensures { LadderStepOf self (zones12 self) result }
     {
         let offset = self.zone1.against(self.zone2);
@@ -102,7 +102,7 @@ impl Ladder {
 
     // What is left of zone 2 against zone 3.
     pub fn zones23(self) -> LadderStep
-        requires { zonesGross self ≤ limit }
+        requires { zones_gross self ≤ limit }
         ensures { LadderStepOf self (zones23 self) result }
     {
         let offset = self.zone2.against(self.zone3);
@@ -111,7 +111,7 @@ impl Ladder {
 
     // What is left of zones 1 and 3.
     pub fn zones13(self) -> LadderStep
-        requires { zonesGross self ≤ limit }
+        requires { zones_gross self ≤ limit }
         ensures { LadderStepOf self (zones13 self) result }
     {
         let offset = self.zone1.against(self.zone3);
@@ -120,8 +120,8 @@ impl Ladder {
 
     // The absolute net of what is left.
     pub fn residual(self) -> u64
-        requires { zonesGross self ≤ limit }
-        ensures { (result ≡ absoluteNet (together self)) × (result ≤ zonesGross self) }
+        requires { zones_gross self ≤ limit }
+        ensures { (result ≡ absolute_net (together self)) × (result ≤ zones_gross self) }
     {
         let end = self.zone1.add(self.zone2.add(self.zone3)).net();
         end.left.long + end.left.short
@@ -129,7 +129,7 @@ impl Ladder {
 
     // The three zones against one another, each step beginning with what the one before it left.
     pub fn cross(self) -> Crossing
-        requires { zonesGross self ≤ limit }
+        requires { zones_gross self ≤ limit }
         ensures { result ≡ crossing self }
     {
         let step12 = self.zones12();

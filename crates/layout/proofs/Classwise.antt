@@ -19,8 +19,8 @@ pub record Writes (piece : ℕ → List ℕ) (out₀ : List ℕ) (start : ℕ) (
   pub room : at + length (from_class piece class) ≤ length out
   pub whole : written out at (from_class piece class) ≡ written out₀ start (flat_map piece classes)
 
-next-piece : (piece : ℕ → List ℕ) (class : ℕ) → 1 ≤ class → class ≤ 4 → from_class piece class ≡ piece class ++ from_class piece (class + 1)
-next-piece piece class low high = rw (add-one class) (from_next piece class low high)
+next_piece : (piece : ℕ → List ℕ) (class : ℕ) → 1 ≤ class → class ≤ 4 → from_class piece class ≡ piece class ++ from_class piece (class + 1)
+next_piece piece class low high = rw (add-one class) (from_next piece class low high)
 
 module _ (piece : ℕ → List ℕ) (out₀ : List ℕ) (start : ℕ) where
   pub begins : start + length (flat_map piece classes) ≤ length out₀ → Writes piece out₀ start out₀ start 1
@@ -28,15 +28,15 @@ module _ (piece : ℕ → List ℕ) (out₀ : List ℕ) (start : ℕ) where
 
   module _ (out : List ℕ) (at class : ℕ) (now : Writes piece out₀ start out at class) where
     -- the piece of a class has room
-    pub piece-room : class ≤ 4 → at + length (piece class) + length (from_class piece (class + 1)) ≤ length out
-    piece-room h =
-        let size = simp length-append at (ap length (next-piece piece class now.low h)) in
+    pub piece_room : class ≤ 4 → at + length (piece class) + length (from_class piece (class + 1)) ≤ length out
+    piece_room h =
+        let size = simp length-append at (ap length (next_piece piece class now.low h)) in
         omega (arith, now.room)
 
     pub writes-next : class ≤ 4 → (out' : List ℕ) (at' : ℕ) → out' ≡ written out at (piece class) → at' ≡ at + length (piece class)
         → Writes piece out₀ start out' at' (class + 1)
     writes-next h out' at' e place =
-        let fits = piece-room h in
+        let fits = piece_room h in
         let same : length out' ≡ length out = ap length e ∙ written-length out (piece class) at (omega arith) in
         record {
           low = omega arith;
@@ -45,11 +45,11 @@ module _ (piece : ℕ → List ℕ) (out₀ : List ℕ) (start : ℕ) where
           room = omega arith;
           whole =
               rw (e, place) (written_after out (piece class) (from_class piece (class + 1)) at fits)
-              ∙ ap (written out at) (sym (next-piece piece class now.low h))
+              ∙ ap (written out at) (sym (next_piece piece class now.low h))
               ∙ now.whole;
         }
 
-    pub all-written : 4 < class → out ≡ written out₀ start (flat_map piece classes)
-    all-written h =
+    pub all_written : 4 < class → out ≡ written out₀ start (flat_map piece classes)
+    all_written h =
         let last : class ≡ 5 = omega (arith, now.high) in
         sym (written-nothing out at) ∙ rw (last, from_last piece) at now.whole

@@ -6,21 +6,21 @@ pub use Rattle.layout.specs.declared.Written.{Written}
 use Rattle.layout.specs.Written.{written}
 
 -- the first of two refusals that applies (document 01, Who is told no, and why)
-unfoldable pub orNext : Refusal → Refusal → Refusal
-orNext refusal next = cond (eqb refusal.number 0) next refusal
+unfoldable pub or_next : Refusal → Refusal → Refusal
+or_next refusal next = cond (eqb refusal.number 0) next refusal
 
 -- 12: an output shorter than the result (document 01, Who is told no, and why)
-unfoldable pub roomRefusal : (size room : ℕ) → Refusal
-roomRefusal size room = cond (ltb room size) (refused 12 0) (refused 0 0)
+unfoldable pub room_refusal : (size room : ℕ) → Refusal
+room_refusal size room = cond (ltb room size) (refused 12 0) (refused 0 0)
 
 -- a figure of the answer: 0 where the call is refused (document 01, Who is told no, and why)
-unfoldable pub figureOf : Refusal → ℕ → ℕ
-figureOf refusal figure = cond (eqb refusal.number 0) figure 0
+unfoldable pub figure_of : Refusal → ℕ → ℕ
+figure_of refusal figure = cond (eqb refusal.number 0) figure 0
 
 -- the answer: the refusal and the length of what is written (document 01, Joining)
 unfoldable pub written_of : Refusal → List ℕ → Written
-written_of refusal book = record { refusal = refusal; length = figureOf refusal (length book) }
+written_of refusal book = record { refusal = refusal; length = figure_of refusal (length book) }
 
 -- the output afterwards: the book at its start, the bytes past it as they were; of a refused call all of them (document 01, Joining; P1)
-unfoldable pub outputOf : Refusal → (book out : List ℕ) → List ℕ
-outputOf refusal book out = cond (eqb refusal.number 0) (written out 0 book) out
+unfoldable pub output_of : Refusal → (book out : List ℕ) → List ℕ
+output_of refusal book out = cond (eqb refusal.number 0) (written out 0 book) out

@@ -1,8 +1,8 @@
 // Numbers, low byte first, and rows written into the output.
 ghost use Rattle.std.specs.Prelude.{◌≡◌, [], ◌∷◌, ◌+◌, ◌≤◌, length};
-ghost use Rattle.book.specs.Counts.{rowSize};
+ghost use Rattle.book.specs.Counts.{row_size};
 ghost use Rattle.layout.specs.Written.{written};
-ghost use Rattle.layout.specs.Files.{twoBytes, fourBytes, rowBytes};
+ghost use Rattle.layout.specs.Files.{two_bytes_of, four_bytes_of, row_bytes};
 
 use book::Row;
 
@@ -17,14 +17,14 @@ fn write_pair(first: u8, second: u8, out: &mut [u8], at: usize)
 
 pub fn write_u16(n: u16, out: &mut [u8], at: usize)
     requires { at + 2 ≤ length out.old }
-    ensures { out.new ≡ written out.old at (twoBytes n) }
+    ensures { out.new ≡ written out.old at (two_bytes_of n) }
 {
     write_pair((n % 256) as u8, (n / 256) as u8, out, at);
 }
 
 pub fn write_u32(n: u32, out: &mut [u8], at: usize)
     requires { at + 4 ≤ length out.old }
-    ensures { out.new ≡ written out.old at (fourBytes n) }
+    ensures { out.new ≡ written out.old at (four_bytes_of n) }
 {
     write_u16((n % 65536) as u16, out, at);
     write_u16((n / 65536) as u16, out, at + 2);
@@ -32,8 +32,8 @@ pub fn write_u32(n: u32, out: &mut [u8], at: usize)
 
 // Writes a row's sixteen bytes.
 pub fn write_row(row: Row, out: &mut [u8], at: usize)
-    requires { at + rowSize ≤ length out.old }
-    ensures { out.new ≡ written out.old at (rowBytes row) }
+    requires { at + row_size ≤ length out.old }
+    ensures { out.new ≡ written out.old at (row_bytes row) }
 {
     write_pair(row.group, row.kind, out, at);
     write_u16(row.days, out, at + 2);

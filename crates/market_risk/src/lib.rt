@@ -2,14 +2,14 @@
 mod writing;
 
 ghost use Rattle.std.specs.Prelude.{◌≡◌, ◌+◌, ◌≤◌, length as len};
-ghost use Rattle.book.specs.Refusals.{refusalOf};
-ghost use Rattle.book.specs.Parts.{handedOf};
-ghost use Rattle.table.specs.Loaded.{standardBytes};
+ghost use Rattle.book.specs.Refusals.{refusal_of};
+ghost use Rattle.book.specs.Parts.{handed_of};
+ghost use Rattle.table.specs.Loaded.{standard_bytes};
 ghost use Rattle.layout.specs.Written.{written};
-ghost use Rattle.charges.specs.Report.{reportOf, interestLadderOf, commodityLadderOf};
-ghost use Rattle.charges.specs.SmallBank.{smallBankOf};
-ghost use Rattle.trade.specs.Trade.{leastTradeOf};
-ghost use Rattle.market_risk.specs.Entries.{refusalEntries, handedEntries, reportEntries, interestEntries, commodityEntries, smallEntries, tradeEntries};
+ghost use Rattle.charges.specs.Report.{report_of, interest_ladder_of, commodity_ladder_of};
+ghost use Rattle.charges.specs.SmallBank.{small_bank_of};
+ghost use Rattle.trade.specs.Trade.{least_trade_of};
+ghost use Rattle.market_risk.specs.Entries.{refusal_entries, handed_entries, report_entries, interest_entries, commodity_entries, small_entries, trade_entries};
 
 // The entries of a report: its refusal and figures, and two for each currency.
 const REPORT: usize = 75;
@@ -17,7 +17,7 @@ const REPORT: usize = 75;
 // The refusal of a book.
 #[unsafe(no_mangle)]
 pub extern "C" fn market_risk_check(book: &[u8], out: &mut [u64; 3])
-    ensures { out.new ≡ refusalEntries (refusalOf book.now) }
+    ensures { out.new ≡ refusal_entries (refusal_of book.now) }
 {
     let refusal = book::check(book);
     *out = [
@@ -30,7 +30,7 @@ pub extern "C" fn market_risk_check(book: &[u8], out: &mut [u64; 3])
 // Where the rows of a class lie in a book.
 #[unsafe(no_mangle)]
 pub extern "C" fn market_risk_part(book: &[u8], class: usize, out: &mut [u64; 5])
-    ensures { out.new ≡ handedEntries (handedOf book.now class) }
+    ensures { out.new ≡ handed_entries (handed_of book.now class) }
 {
     let handed = book::hand(book, class);
     *out = [
@@ -45,7 +45,7 @@ pub extern "C" fn market_risk_part(book: &[u8], class: usize, out: &mut [u64; 5]
 // Document 01's table.
 #[unsafe(no_mangle)]
 pub extern "C" fn market_risk_table(out: &mut [u8; 36])
-    ensures { out.new ≡ standardBytes }
+    ensures { out.new ≡ standard_bytes }
 {
     *out = table::standard();
 }
@@ -53,7 +53,7 @@ pub extern "C" fn market_risk_table(out: &mut [u8; 36])
 // The report of a book, by a table.
 #[unsafe(no_mangle)]
 pub extern "C" fn market_risk_charge(book: &[u8], table: &[u8], out: &mut [u64; REPORT])
-    ensures { out.new ≡ reportEntries (reportOf table.now book.now) }
+    ensures { out.new ≡ report_entries (report_of table.now book.now) }
 {
     let report = charges::charge(book, table);
     let figures = [
@@ -97,7 +97,7 @@ pub extern "C" fn market_risk_interest_ladder(
     group: usize,
     out: &mut [u64; 13],
 )
-    ensures { out.new ≡ interestEntries (interestLadderOf table.now book.now group) }
+    ensures { out.new ≡ interest_entries (interest_ladder_of table.now book.now group) }
 {
     let ladder = charges::interest_ladder(book, table, group);
     *out = [
@@ -120,7 +120,7 @@ pub extern "C" fn market_risk_interest_ladder(
 // The ladder of a commodity.
 #[unsafe(no_mangle)]
 pub extern "C" fn market_risk_commodity_ladder(book: &[u8], group: usize, out: &mut [u64; 7])
-    ensures { out.new ≡ commodityEntries (commodityLadderOf book.now group) }
+    ensures { out.new ≡ commodity_entries (commodity_ladder_of book.now group) }
 {
     let ladder = charges::commodity_ladder(book, group);
     *out = [
@@ -137,7 +137,7 @@ pub extern "C" fn market_risk_commodity_ladder(book: &[u8], group: usize, out: &
 // The figures of a bank with foreign exchange and commodities alone.
 #[unsafe(no_mangle)]
 pub extern "C" fn market_risk_small_bank(book: &[u8], out: &mut [u64; 6])
-    ensures { out.new ≡ smallEntries (smallBankOf book.now) }
+    ensures { out.new ≡ small_entries (small_bank_of book.now) }
 {
     let bank = charges::small_bank(book);
     *out = [
@@ -161,7 +161,7 @@ pub extern "C" fn market_risk_least_trade(
     limit: u64,
     res: &mut [u64; 5],
 )
-    ensures { res.new ≡ tradeEntries (leastTradeOf table.now book.now group band side limit) }
+    ensures { res.new ≡ trade_entries (least_trade_of table.now book.now group band side limit) }
 {
     let trade = trade::least_trade(book, table, group, band, side, limit);
     *res = [

@@ -1,19 +1,19 @@
 // The calls that write a book into an output, whose result tells its length.
 ghost use Rattle.std.specs.Prelude.{◌≡◌, [], ◌∷◌, ◌++◌, length as len};
-ghost use Rattle.join.specs.Joined.{joinedOf, joinOutput};
-ghost use Rattle.shortest.specs.Shortest.{shortestOf, shortestOutput};
-ghost use Rattle.dearest.specs.Dearest.{dearestOf, dearestOutput};
-ghost use Rattle.options.specs.Options.{pricedOf, pricingOutput};
-ghost use Rattle.netting.specs.Netted.{nettedOf, nettingOutput};
-ghost use Rattle.offsetting.specs.Offset.{offset_of, offsettingOutput};
-ghost use Rattle.offsetting.specs.NetOffset.{netOffsetOf, netOffsetOutput};
-ghost use Rattle.market_risk.specs.Entries.{refusalEntries, joinedEntries, nettedEntries, writtenEntries, shownEntries, costedEntries, pricedEntries};
+ghost use Rattle.join.specs.Joined.{joined_of, join_output};
+ghost use Rattle.shortest.specs.Shortest.{shortest_of, shortest_output};
+ghost use Rattle.dearest.specs.Dearest.{dearest_of, dearest_output};
+ghost use Rattle.options.specs.Options.{priced_of, pricing_output};
+ghost use Rattle.netting.specs.Netted.{netted_of, netting_output};
+ghost use Rattle.offsetting.specs.Offset.{offset_of, offsetting_output};
+ghost use Rattle.offsetting.specs.NetOffset.{net_offset_of, net_offset_output};
+ghost use Rattle.market_risk.specs.Entries.{refusal_entries, joined_entries, netted_entries, written_entries, shown_entries, costed_entries, priced_entries};
 
 use book::Refusal;
 
 // The entries of a call with one figure besides the length.
 fn entries(refusal: Refusal, length: usize, figure: u64) -> [u64; 5]
-    ensures { result ≡ refusalEntries refusal ++ (length ∷ figure ∷ []) }
+    ensures { result ≡ refusal_entries refusal ++ (length ∷ figure ∷ []) }
 {
     [
         refusal.number as u64,
@@ -27,8 +27,8 @@ fn entries(refusal: Refusal, length: usize, figure: u64) -> [u64; 5]
 // Joins two books into out: bytes past the joined book keep their values, of a refused join all do.
 #[unsafe(no_mangle)]
 pub extern "C" fn market_risk_join(a: &[u8], b: &[u8], out: &mut [u8], res: &mut [u64; 4])
-    ensures out_after { out.new ≡ joinOutput a.now b.now out.old }
-    ensures res_after { res.new ≡ joinedEntries (joinedOf a.now b.now (len out.old)) }
+    ensures out_after { out.new ≡ join_output a.now b.now out.old }
+    ensures res_after { res.new ≡ joined_entries (joined_of a.now b.now (len out.old)) }
 {
     let joined = join::join(a, b, out);
     *res = [
@@ -42,8 +42,8 @@ pub extern "C" fn market_risk_join(a: &[u8], b: &[u8], out: &mut [u8], res: &mut
 // Nets the issues of a book into out: bytes past the netted book keep their values, of a refused call all do.
 #[unsafe(no_mangle)]
 pub extern "C" fn market_risk_net(book: &[u8], out: &mut [u8], res: &mut [u64; 5])
-    ensures out_after { out.new ≡ nettingOutput book.now out.old }
-    ensures res_after { res.new ≡ nettedEntries (nettedOf book.now (len out.old)) }
+    ensures out_after { out.new ≡ netting_output book.now out.old }
+    ensures res_after { res.new ≡ netted_entries (netted_of book.now (len out.old)) }
 {
     let netted = netting::net(book, out);
     *res = entries(netted.refusal, netted.length, netted.comparisons as u64);
@@ -52,8 +52,8 @@ pub extern "C" fn market_risk_net(book: &[u8], out: &mut [u8], res: &mut [u64; 5
 // Writes a book without its fitting swap legs into out: bytes past it keep their values, of a refused call all do.
 #[unsafe(no_mangle)]
 pub extern "C" fn market_risk_offset(book: &[u8], out: &mut [u8], res: &mut [u64; 4])
-    ensures out_after { out.new ≡ offsettingOutput book.now out.old }
-    ensures res_after { res.new ≡ writtenEntries (offset_of book.now (len out.old)) }
+    ensures out_after { out.new ≡ offsetting_output book.now out.old }
+    ensures res_after { res.new ≡ written_entries (offset_of book.now (len out.old)) }
 {
     let left = offsetting::offset(book, out);
     *res = [
@@ -67,8 +67,8 @@ pub extern "C" fn market_risk_offset(book: &[u8], out: &mut [u8], res: &mut [u64
 // Nets the issues of a book and then drops its fitting swap legs, into out: bytes past the result keep their values, of a refused call all do.
 #[unsafe(no_mangle)]
 pub extern "C" fn market_risk_net_and_offset(book: &[u8], out: &mut [u8], res: &mut [u64; 5])
-    ensures out_after { out.new ≡ netOffsetOutput book.now out.old }
-    ensures res_after { res.new ≡ nettedEntries (netOffsetOf book.now (len out.old)) }
+    ensures out_after { out.new ≡ net_offset_output book.now out.old }
+    ensures res_after { res.new ≡ netted_entries (net_offset_of book.now (len out.old)) }
 {
     let both = offsetting::net_and_offset(book, out);
     *res = entries(both.refusal, both.length, both.comparisons as u64);
@@ -78,8 +78,8 @@ pub extern "C" fn market_risk_net_and_offset(book: &[u8], out: &mut [u8], res: &
 // all do.
 #[unsafe(no_mangle)]
 pub extern "C" fn market_risk_shortest(book: &[u8], out: &mut [u8], res: &mut [u64; 5])
-    ensures out_after { out.new ≡ shortestOutput book.now out.old }
-    ensures res_after { res.new ≡ shownEntries (shortestOf book.now (len out.old)) }
+    ensures out_after { out.new ≡ shortest_output book.now out.old }
+    ensures res_after { res.new ≡ shown_entries (shortest_of book.now (len out.old)) }
 {
     let shown = shortest::shortest(book, out);
     *res = entries(shown.refusal, shown.length, shown.accepted as u64);
@@ -88,8 +88,8 @@ pub extern "C" fn market_risk_shortest(book: &[u8], out: &mut [u8], res: &mut [u
 // Writes the dearest book of so many rows of at most an amount each into out: bytes past it keep their values, of a refused call all do.
 #[unsafe(no_mangle)]
 pub extern "C" fn market_risk_dearest(rows: usize, most: u64, out: &mut [u8], res: &mut [u64; 5])
-    ensures out_after { out.new ≡ dearestOutput rows most out.old }
-    ensures res_after { res.new ≡ costedEntries (dearestOf rows most (len out.old)) }
+    ensures out_after { out.new ≡ dearest_output rows most out.old }
+    ensures res_after { res.new ≡ costed_entries (dearest_of rows most (len out.old)) }
 {
     let costed = dearest::dearest(rows, most, out);
     *res = entries(costed.refusal, costed.length, costed.total);
@@ -98,8 +98,8 @@ pub extern "C" fn market_risk_dearest(rows: usize, most: u64, out: &mut [u8], re
 // Writes the book of an option table's deltas into out, and charges gamma, vega and the book: bytes past it keep their values, of a refused call all do.
 #[unsafe(no_mangle)]
 pub extern "C" fn market_risk_options(table: &[u8], out: &mut [u8], res: &mut [u64; 17])
-    ensures out_after { out.new ≡ pricingOutput table.now out.old }
-    ensures res_after { res.new ≡ pricedEntries (pricedOf table.now (len out.old)) }
+    ensures out_after { out.new ≡ pricing_output table.now out.old }
+    ensures res_after { res.new ≡ priced_entries (priced_of table.now (len out.old)) }
 {
     let priced = options::options(table, out);
     let gammas = priced.gammas;

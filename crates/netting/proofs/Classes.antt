@@ -11,164 +11,164 @@ use native.Mathlib.Omega.{arith}
 use lib.Seq.{take-length}
 use lib.ListN.{drop, length, get_or, length-replicate, replicate, get_or-replicate, get_or-eq_default}
 use Rattle.sums.specs.Sums.{sum_of}
-use Rattle.sums.proofs.Every.{every-implied}
+use Rattle.sums.proofs.Every.{every_implied}
 use Rattle.book.specs.declared.Row.{Row}
-use Rattle.book.specs.Counts.{classes, countsOf, countIn, rowsBefore}
-use Rattle.book.specs.Legs.{Leg, legsOf, ofClass}
-use Rattle.book.specs.Refusals.{mostRows, refused}
+use Rattle.book.specs.Counts.{classes, counts_of, count_in, rows_before}
+use Rattle.book.specs.Legs.{Leg, legs_of, of_class}
+use Rattle.book.specs.Refusals.{most_rows, refused}
 use Rattle.book.specs.Accepted.{Accepted}
 use Rattle.book.proofs.Placing.{of_four, from_class, from_first, from_last, before-none, before-next, before-within, rows_apart}
-use Rattle.book.proofs.Walking.{classLegs, legs-by-class}
+use Rattle.book.proofs.Walking.{class_legs, legs_by_class}
 use Rattle.issues.specs.Comparing.{comparisons}
 use Rattle.issues.specs.Agreeing.{differs}
-use Rattle.netting.specs.Netted.{firstFound, foundInClass, differingRefusal, comparisonsOf}
-use Rattle.netting.specs.Inner.Gathering.{Holds, CanGather, Gathered, GatheredBook, gatheredIn}
-use Rattle.netting.proofs.Places.{place-within}
-use Rattle.netting.proofs.Adding.{gathered-length}
-use Rattle.netting.proofs.Tallied.{all-before, all-at, all_past}
-use Rattle.netting.proofs.Limits.{legWith}
-use Rattle.book.proofs.ClassRows.{class-size, rows-clean}
-use Rattle.netting.proofs.Found.{found-past, found_in, legs-next}
+use Rattle.netting.specs.Netted.{first_found, found_in_class, differing_refusal, comparisons_of}
+use Rattle.netting.specs.Inner.Gathering.{Holds, CanGather, Gathered, GatheredBook, gathered_in}
+use Rattle.netting.proofs.Places.{place_within}
+use Rattle.netting.proofs.Adding.{gathered_length}
+use Rattle.netting.proofs.Tallied.{all_before, all_at, all_past}
+use Rattle.netting.proofs.Limits.{leg_with}
+use Rattle.book.proofs.ClassRows.{class_size, rows_clean}
+use Rattle.netting.proofs.Found.{found_past, found_in, legs_next}
 
 abbrev test : List ℕ → Leg → Bool
-test s leg = differs (ofClass leg.class (legsOf s)) leg.row
+test s leg = differs (of_class leg.class (legs_of s)) leg.row
 
 -- the comparisons of a class, and of the classes from one on
-abbrev pub classComparisons : List ℕ → ℕ → ℕ
-classComparisons s class = comparisons (ofClass class (legsOf s))
+abbrev pub class_comparisons : List ℕ → ℕ → ℕ
+class_comparisons s class = comparisons (of_class class (legs_of s))
 
-unfoldable pub leftFrom : List ℕ → ℕ → ℕ
-leftFrom s class = sum_of (classComparisons s) (drop (class - 1) classes)
+unfoldable pub left_from : List ℕ → ℕ → ℕ
+left_from s class = sum_of (class_comparisons s) (drop (class - 1) classes)
 
-left-next : (s : List ℕ) (class : ℕ) → 1 ≤ class → class ≤ 4 → leftFrom s class ≡ classComparisons s class + leftFrom s (class + 1)
-unfolding leftFrom sum_of
-left-next s = of_four (λ class. leftFrom s class ≡ classComparisons s class + leftFrom s (class + 1)) (omega arith) (omega arith) (omega arith) (omega arith)
+left-next : (s : List ℕ) (class : ℕ) → 1 ≤ class → class ≤ 4 → left_from s class ≡ class_comparisons s class + left_from s (class + 1)
+unfolding left_from sum_of
+left-next s = of_four (λ class. left_from s class ≡ class_comparisons s class + left_from s (class + 1)) (omega arith) (omega arith) (omega arith) (omega arith)
 
 pub record GatheredTo (s : List ℕ) (class compared : ℕ) (longs shorts : List ℕ) : Type 0 where
   pub low : 1 ≤ class
   pub high : class ≤ 5
-  pub sized-longs : length longs ≡ mostRows
-  pub sized-shorts : length shorts ≡ mostRows
-  pub unfound : firstFound 13 (test s) (rowsBefore (countsOf s) class) (from_class (classLegs s) class) ≡ differingRefusal (legsOf s)
-  pub is-compared : compared + leftFrom s class ≡ comparisonsOf s
-  pub few-compared : compared ≤ mostRows * rowsBefore (countsOf s) class
-  pub clear-longs : (m : ℕ) → rowsBefore (countsOf s) class ≤ m → get_or longs m 0 ≡ 0
-  pub clear-shorts : (m : ℕ) → rowsBefore (countsOf s) class ≤ m → get_or shorts m 0 ≡ 0
-  pub holds : (other : ℕ) → 1 ≤ other → other < class → Holds (rowsBefore (countsOf s) other) (ofClass other (legsOf s)) longs shorts
+  pub sized_longs : length longs ≡ most_rows
+  pub sized_shorts : length shorts ≡ most_rows
+  pub unfound : first_found 13 (test s) (rows_before (counts_of s) class) (from_class (class_legs s) class) ≡ differing_refusal (legs_of s)
+  pub is_compared : compared + left_from s class ≡ comparisons_of s
+  pub few_compared : compared ≤ most_rows * rows_before (counts_of s) class
+  pub clear_longs : (m : ℕ) → rows_before (counts_of s) class ≤ m → get_or longs m 0 ≡ 0
+  pub clear_shorts : (m : ℕ) → rows_before (counts_of s) class ≤ m → get_or shorts m 0 ≡ 0
+  pub holds : (other : ℕ) → 1 ≤ other → other < class → Holds (rows_before (counts_of s) other) (of_class other (legs_of s)) longs shorts
 
-zero-anywhere : (n m : ℕ) → get_or {A = ℕ} (replicate n 0) m 0 ≡ 0
-zero-anywhere n m = go (dec_lt m n)
+zero_anywhere : (n m : ℕ) → get_or {A = ℕ} (replicate n 0) m 0 ≡ 0
+zero_anywhere n m = go (dec_lt m n)
   where
     go : Dec (m < n) → get_or {A = ℕ} (replicate n 0) m 0 ≡ 0
     go (yes h) = get_or-replicate {A = ℕ} n m 0 0 h
     go (no h) = get_or-eq_default {A = ℕ} (replicate n 0) 0 {n = m} (omega (arith, length-replicate {A = ℕ} n 0))
 
-pub gathered_none : (s : List ℕ) → GatheredTo s 1 0 (replicate mostRows 0) (replicate mostRows 0)
-unfolding foundInClass leftFrom comparisonsOf
+pub gathered_none : (s : List ℕ) → GatheredTo s 1 0 (replicate most_rows 0) (replicate most_rows 0)
+unfolding found_in_class left_from comparisons_of
 gathered_none s =
     record {
       low = omega arith;
       high = omega arith;
-      sized-longs = length-replicate {A = ℕ} mostRows 0;
-      sized-shorts = length-replicate {A = ℕ} mostRows 0;
-      unfound = rw (before-none (countsOf s) 1 (omega arith), from_first (classLegs s), ← legs-by-class s);
-      is-compared = zero-add _;
-      few-compared = omega arith;
-      clear-longs = λ m h. zero-anywhere mostRows m;
-      clear-shorts = λ m h. zero-anywhere mostRows m;
+      sized_longs = length-replicate {A = ℕ} most_rows 0;
+      sized_shorts = length-replicate {A = ℕ} most_rows 0;
+      unfound = rw (before-none (counts_of s) 1 (omega arith), from_first (class_legs s), ← legs_by_class s);
+      is_compared = zero-add _;
+      few_compared = omega arith;
+      clear_longs = λ m h. zero_anywhere most_rows m;
+      clear_shorts = λ m h. zero_anywhere most_rows m;
       holds = λ other low high. let never : ⊥ = omega arith in absurd never;
     }
 
 module _ (s : List ℕ) (ok : Accepted s) (class compared : ℕ) (longs shorts : List ℕ) (now : GatheredTo s class compared longs shorts) (high : class ≤ 4) where
   abbrev first : ℕ
-  first = rowsBefore (countsOf s) class
+  first = rows_before (counts_of s) class
 
   abbrev rows : List Row
-  rows = ofClass class (legsOf s)
+  rows = of_class class (legs_of s)
 
-  size : length rows ≡ countIn (countsOf s) class
-  size = class-size s ok class now.low high
+  size : length rows ≡ count_in (counts_of s) class
+  size = class_size s ok class now.low high
 
   pub gathers : CanGather first rows longs shorts
   gathers =
       record {
-        sized-longs = now.sized-longs;
-        sized-shorts = now.sized-shorts;
-        room = omega (arith, size, before-within (countsOf s) class, ok.few);
-        clear-longs = now.clear-longs;
-        clear-shorts = now.clear-shorts;
-        within = every-implied (λ row clean. (clean.long, clean.short)) (rows-clean s ok class now.low high);
+        sized_longs = now.sized_longs;
+        sized_shorts = now.sized_shorts;
+        room = omega (arith, size, before-within (counts_of s) class, ok.few);
+        clear_longs = now.clear_longs;
+        clear_shorts = now.clear_shorts;
+        within = every_implied (λ row clean. (clean.long, clean.short)) (rows_clean s ok class now.low high);
       }
 
-  legs : firstFound 13 (test s) first (map (legWith class) rows ++ from_class (classLegs s) (class + 1)) ≡ differingRefusal (legsOf s)
-  legs = rw (← legs-next s class now.low high) now.unfound
+  legs : first_found 13 (test s) first (map (leg_with class) rows ++ from_class (class_legs s) (class + 1)) ≡ differing_refusal (legs_of s)
+  legs = rw (← legs_next s class now.low high) now.unfound
 
   module _ (row compared' : ℕ) (longs' shorts' : List ℕ) (did : Gathered first rows row compared' longs shorts longs' shorts') where
-    pub leaves : row < length rows → differingRefusal (legsOf s) ≡ refused 13 (first + row)
+    pub leaves : row < length rows → differing_refusal (legs_of s) ≡ refused 13 (first + row)
     leaves h =
-        sym legs ∙ found_in 13 class (test s) (from_class (classLegs s) (class + 1)) first rows (rw did.is at h)
+        sym legs ∙ found_in 13 class (test s) (from_class (class_legs s) (class + 1)) first rows (rw did.is at h)
         ∙ ap (λ (n : ℕ). refused 13 (first + n)) (sym did.is)
 
     -- all rows of the class were added
     module _ (past : length rows ≤ row) where
       all : row ≡ length rows
-      all = omega (arith, did.is, place-within (differs rows) rows)
+      all = omega (arith, did.is, place_within (differs rows) rows)
 
-      is-longs : longs' ≡ gatheredIn (λ r. r.long) first rows (length rows) longs
-      is-longs = did.longs-are ∙ ap (λ (n : ℕ). gatheredIn (λ r. r.long) first rows n longs) all
+      is_longs : longs' ≡ gathered_in (λ r. r.long) first rows (length rows) longs
+      is_longs = did.longs_are ∙ ap (λ (n : ℕ). gathered_in (λ r. r.long) first rows n longs) all
 
-      is-shorts : shorts' ≡ gatheredIn (λ r. r.short) first rows (length rows) shorts
-      is-shorts = did.shorts-are ∙ ap (λ (n : ℕ). gatheredIn (λ r. r.short) first rows n shorts) all
+      is_shorts : shorts' ≡ gathered_in (λ r. r.short) first rows (length rows) shorts
+      is_shorts = did.shorts_are ∙ ap (λ (n : ℕ). gathered_in (λ r. r.short) first rows n shorts) all
 
-      counted : compared' ≡ classComparisons s class
-      counted = did.is-compared ∙ ap comparisons (rw all (take-length rows))
+      counted : compared' ≡ class_comparisons s class
+      counted = did.is_compared ∙ ap comparisons (rw all (take-length rows))
 
-      past-class : rowsBefore (countsOf s) (class + 1) ≡ first + length rows
-      past-class = before-next (countsOf s) class ∙ ap (λ (n : ℕ). first + n) (sym size)
+      past_class : rows_before (counts_of s) (class + 1) ≡ first + length rows
+      past_class = before-next (counts_of s) class ∙ ap (λ (n : ℕ). first + n) (sym size)
 
       pub goes_on : GatheredTo s (class + 1) (compared + compared') longs' shorts'
       goes_on =
           record {
             low = omega arith;
             high = omega arith;
-            sized-longs = ap length is-longs ∙ gathered-length (λ r. r.long) first rows longs (length rows) ∙ now.sized-longs;
-            sized-shorts = ap length is-shorts ∙ gathered-length (λ r. r.short) first rows shorts (length rows) ∙ now.sized-shorts;
-            unfound = rw past-class (sym (found-past 13 class (test s) (from_class (classLegs s) (class + 1)) first rows (sym did.is ∙ all)) ∙ legs);
-            is-compared = omega (arith, now.is-compared, left-next s class now.low high, counted);
-            few-compared = omega (arith, now.few-compared, did.few-compared, past-class, all);
-            clear-longs = λ m h. rw is-longs (all_past (λ r. r.long) first rows longs m (omega (arith, past-class)) (now.clear-longs m (omega (arith, past-class))));
-            clear-shorts = λ m h. rw is-shorts (all_past (λ r. r.short) first rows shorts m (omega (arith, past-class)) (now.clear-shorts m (omega (arith, past-class))));
+            sized_longs = ap length is_longs ∙ gathered_length (λ r. r.long) first rows longs (length rows) ∙ now.sized_longs;
+            sized_shorts = ap length is_shorts ∙ gathered_length (λ r. r.short) first rows shorts (length rows) ∙ now.sized_shorts;
+            unfound = rw past_class (sym (found_past 13 class (test s) (from_class (class_legs s) (class + 1)) first rows (sym did.is ∙ all)) ∙ legs);
+            is_compared = omega (arith, now.is_compared, left-next s class now.low high, counted);
+            few_compared = omega (arith, now.few_compared, did.few_compared, past_class, all);
+            clear_longs = λ m h. rw is_longs (all_past (λ r. r.long) first rows longs m (omega (arith, past_class)) (now.clear_longs m (omega (arith, past_class))));
+            clear_shorts = λ m h. rw is_shorts (all_past (λ r. r.short) first rows shorts m (omega (arith, past_class)) (now.clear_shorts m (omega (arith, past_class))));
             holds = λ other low below. stands other low (ℕ_discrete other class) below;
           }
         where
           -- this class, and those before it
           stands : (other : ℕ) → 1 ≤ other → Dec (other ≡ class) → other < class + 1
-              → Holds (rowsBefore (countsOf s) other) (ofClass other (legsOf s)) longs' shorts'
-          stands other low (yes own) below = rw (own, is-longs, is-shorts) (
+              → Holds (rows_before (counts_of s) other) (of_class other (legs_of s)) longs' shorts'
+          stands other low (yes own) below = rw (own, is_longs, is_shorts) (
               record {
-                longs-at = λ k h. all-at (λ r. r.long) first rows longs k (omega (arith, now.sized-longs, gathers.room)) (now.clear-longs (first + k) (omega arith));
-                shorts-at = λ k h. all-at (λ r. r.short) first rows shorts k (omega (arith, now.sized-shorts, gathers.room)) (now.clear-shorts (first + k) (omega arith));
+                longs_at = λ k h. all_at (λ r. r.long) first rows longs k (omega (arith, now.sized_longs, gathers.room)) (now.clear_longs (first + k) (omega arith));
+                shorts_at = λ k h. all_at (λ r. r.short) first rows shorts k (omega (arith, now.sized_shorts, gathers.room)) (now.clear_shorts (first + k) (omega arith));
               })
           stands other low (no apart) below =
               let before = lt_of_le_of_ne (omega arith) apart in
               let was = now.holds other low before in
-              let end = rows_apart (countsOf s) other class before in
-              let many = class-size s ok other low (omega arith) in
-              rw (is-longs, is-shorts) (
+              let end = rows_apart (counts_of s) other class before in
+              let many = class_size s ok other low (omega arith) in
+              rw (is_longs, is_shorts) (
               record {
-                longs-at = λ k h. all-before (λ r. r.long) first rows longs (rowsBefore (countsOf s) other + k) (omega arith) ∙ was.longs-at k h;
-                shorts-at = λ k h. all-before (λ r. r.short) first rows shorts (rowsBefore (countsOf s) other + k) (omega arith) ∙ was.shorts-at k h;
+                longs_at = λ k h. all_before (λ r. r.long) first rows longs (rows_before (counts_of s) other + k) (omega arith) ∙ was.longs_at k h;
+                shorts_at = λ k h. all_before (λ r. r.short) first rows shorts (rows_before (counts_of s) other + k) (omega arith) ∙ was.shorts_at k h;
               })
 
 -- all classes are gathered
-pub gathered-all : (s : List ℕ) (class compared : ℕ) (longs shorts : List ℕ) → GatheredTo s class compared longs shorts → 4 < class
+pub gathered_all : (s : List ℕ) (class compared : ℕ) (longs shorts : List ℕ) → GatheredTo s class compared longs shorts → 4 < class
     → GatheredBook s (refused 0 0) compared longs shorts
-unfolding firstFound leftFrom sum_of
-gathered-all s class compared longs shorts now past =
+unfolding first_found left_from sum_of
+gathered_all s class compared longs shorts now past =
     let last : class ≡ 5 = omega (arith, now.high) in
     record {
-      is = rw (last, from_last (classLegs s)) at now.unfound;
-      is-compared = λ none'. sym (add-zero compared) ∙ rw last at now.is-compared;
-      tables = λ none'. record { sized-longs = now.sized-longs; sized-shorts = now.sized-shorts };
+      is = rw (last, from_last (class_legs s)) at now.unfound;
+      is_compared = λ none'. sym (add-zero compared) ∙ rw last at now.is_compared;
+      tables = λ none'. record { sized_longs = now.sized_longs; sized_shorts = now.sized_shorts };
       holds = λ none' other low high. now.holds other low (omega arith);
     }

@@ -9,13 +9,13 @@ use lib.Dec.{eqb}
 use lib.ListN.{length, get_or}
 use borrow.Author.Tests.{eqb-true, eq-eqb}
 use Rattle.issues.specs.Issues.{has}
-use Rattle.issues.specs.Comparing.{comparedWith}
-use Rattle.issues.proofs.Comparing.{compared-all}
-use Rattle.netting.specs.Inner.Places.{firstPlace, place_of}
+use Rattle.issues.specs.Comparing.{compared_with}
+use Rattle.issues.proofs.Comparing.{compared_all}
+use Rattle.netting.specs.Inner.Places.{first_place, place_of}
 
 module _ (issue : ℕ) where
   pub has_within : (list : List ℕ) → has list issue ≡ true → place_of issue list < length list
-  unfolding has firstPlace
+  unfolding has first_place
   has_within [] e = absurd (true≢false (sym e))
   has_within (other ∷ list) e = go (eqb other issue) e (has_within list)
     where
@@ -24,10 +24,10 @@ module _ (issue : ℕ) where
       go true e later = omega arith
       go false e later = omega (arith, later e)
 
-  pub lacks-past : (list : List ℕ) → has list issue ≡ false → place_of issue list ≡ length list
-  unfolding has firstPlace
-  lacks-past [] e = refl
-  lacks-past (other ∷ list) e = go (eqb other issue) e (lacks-past list)
+  pub lacks_past : (list : List ℕ) → has list issue ≡ false → place_of issue list ≡ length list
+  unfolding has first_place
+  lacks_past [] e = refl
+  lacks_past (other ∷ list) e = go (eqb other issue) e (lacks_past list)
     where
       go : (own : Bool) → own || has list issue ≡ false → (has list issue ≡ false → place_of issue list ≡ length list)
           → cond own 0 (suc (place_of issue list)) ≡ suc (length list)
@@ -35,20 +35,20 @@ module _ (issue : ℕ) where
       go false e later = ap suc (later e)
 
   -- a list that goes on
-  pub place-append : (list more : List ℕ) → has list issue ≡ true → place_of issue (list ++ more) ≡ place_of issue list
-  unfolding has firstPlace
-  place-append [] more e = absurd (true≢false (sym e))
-  place-append (other ∷ list) more e = go (eqb other issue) e (place-append list more)
+  pub place_append : (list more : List ℕ) → has list issue ≡ true → place_of issue (list ++ more) ≡ place_of issue list
+  unfolding has first_place
+  place_append [] more e = absurd (true≢false (sym e))
+  place_append (other ∷ list) more e = go (eqb other issue) e (place_append list more)
     where
       go : (own : Bool) → own || has list issue ≡ true → (has list issue ≡ true → place_of issue (list ++ more) ≡ place_of issue list)
           → cond own 0 (suc (place_of issue (list ++ more))) ≡ cond own 0 (suc (place_of issue list))
       go true e later = refl
       go false e later = ap suc (later e)
 
-  pub place-last : (list : List ℕ) → has list issue ≡ false → place_of issue (list ++ (issue ∷ [])) ≡ length list
-  unfolding has firstPlace
-  place-last [] e = rw (eq-eqb issue issue refl)
-  place-last (other ∷ list) e = go (eqb other issue) e (place-last list)
+  pub place_last : (list : List ℕ) → has list issue ≡ false → place_of issue (list ++ (issue ∷ [])) ≡ length list
+  unfolding has first_place
+  place_last [] e = rw (eq-eqb issue issue refl)
+  place_last (other ∷ list) e = go (eqb other issue) e (place_last list)
     where
       go : (own : Bool) → own || has list issue ≡ false → (has list issue ≡ false → place_of issue (list ++ (issue ∷ [])) ≡ length list)
           → cond own 0 (suc (place_of issue (list ++ (issue ∷ [])))) ≡ suc (length list)
@@ -56,10 +56,10 @@ module _ (issue : ℕ) where
       go false e later = ap suc (later e)
 
   -- what a function gives for it, in the list of what it gives
-  pub place-mapped : (f : ℕ → ℕ) (list : List ℕ) → has list issue ≡ true → get_or (map f list) (place_of issue list) 0 ≡ f issue
-  unfolding has firstPlace
-  place-mapped f [] e = absurd (true≢false (sym e))
-  place-mapped f (other ∷ list) e = go (eqb other issue) refl e (place-mapped f list)
+  pub place_mapped : (f : ℕ → ℕ) (list : List ℕ) → has list issue ≡ true → get_or (map f list) (place_of issue list) 0 ≡ f issue
+  unfolding has first_place
+  place_mapped f [] e = absurd (true≢false (sym e))
+  place_mapped f (other ∷ list) e = go (eqb other issue) refl e (place_mapped f list)
     where
       go : (own : Bool) → eqb other issue ≡ own → own || has list issue ≡ true → (has list issue ≡ true → get_or (map f list) (place_of issue list) 0 ≡ f issue)
           → get_or (f other ∷ map f list) (cond own 0 (suc (place_of issue list))) 0 ≡ f issue
@@ -85,19 +85,19 @@ has-later list other issue e = rw e (or-true (eqb other issue))
 
 -- ---- the comparisons to the first equal
 module _ (issue : ℕ) where
-  pub compared-found : (list : List ℕ) → place_of issue list < length list → comparedWith list issue ≡ place_of issue list + 1
-  unfolding comparedWith firstPlace
-  compared-found [] h = let never : ⊥ = omega arith in absurd never
-  compared-found (other ∷ list) h = go (eqb other issue) h (compared-found list)
+  pub compared_found : (list : List ℕ) → place_of issue list < length list → compared_with list issue ≡ place_of issue list + 1
+  unfolding compared_with first_place
+  compared_found [] h = let never : ⊥ = omega arith in absurd never
+  compared_found (other ∷ list) h = go (eqb other issue) h (compared_found list)
     where
-      go : (own : Bool) → cond own 0 (suc (place_of issue list)) < suc (length list) → (place_of issue list < length list → comparedWith list issue ≡ place_of issue list + 1)
-          → suc (cond own 0 (comparedWith list issue)) ≡ cond own 0 (suc (place_of issue list)) + 1
+      go : (own : Bool) → cond own 0 (suc (place_of issue list)) < suc (length list) → (place_of issue list < length list → compared_with list issue ≡ place_of issue list + 1)
+          → suc (cond own 0 (compared_with list issue)) ≡ cond own 0 (suc (place_of issue list)) + 1
       go true h later = omega arith
       go false h later = omega (arith, later (omega arith))
 
-  pub compared-past : (list : List ℕ) → place_of issue list ≡ length list → comparedWith list issue ≡ length list
-  compared-past list e = go (has list issue) refl
+  pub compared_past : (list : List ℕ) → place_of issue list ≡ length list → compared_with list issue ≡ length list
+  compared_past list e = go (has list issue) refl
     where
-      go : (old : Bool) → has list issue ≡ old → comparedWith list issue ≡ length list
+      go : (old : Bool) → has list issue ≡ old → compared_with list issue ≡ length list
       go true h = let never : ⊥ = omega (arith, has_within issue list h) in absurd never
-      go false h = compared-all list issue h
+      go false h = compared_all list issue h

@@ -1,8 +1,8 @@
 // The first rows of the issues of a class: their issue numbers in order, and their places among the rows.
 ghost use Rattle.std.specs.Prelude.{◌≡◌, ◌≤◌, ◌<◌, length, take};
-ghost use Rattle.book.specs.Refusals.{mostRows};
-ghost use Rattle.issues.specs.Agreeing.{sameTerms};
-ghost use Rattle.issues.specs.Comparing.{comparedWith};
+ghost use Rattle.book.specs.Refusals.{most_rows};
+ghost use Rattle.issues.specs.Agreeing.{same_terms};
+ghost use Rattle.issues.specs.Comparing.{compared_with};
 ghost use Rattle.netting.specs.Inner.Places.{place_of, FirstRowFound};
 
 use book::{MOST_ROWS, Row};
@@ -24,7 +24,7 @@ struct Place {
 
 // Whether two rows of one issue can be netted.
 pub fn same_terms(a: Row, b: Row) -> bool
-    ensures { result ≡ sameTerms a b }
+    ensures { result ≡ same_terms a b }
 {
     if a.group != b.group {
         return false;
@@ -40,8 +40,8 @@ pub fn same_terms(a: Row, b: Row) -> bool
 
 // Compares an issue number with the kept ones, in order, to the first equal.
 fn find(issue: u16, issues: &[u16; MOST_ROWS], kept: usize) -> Place
-    requires { (kept ≤ mostRows) × (length issues.now ≡ mostRows) }
-    ensures { (result.at ≡ place_of issue (take kept issues.now)) × (result.compared ≡ comparedWith (take kept issues.now) issue) }
+    requires { (kept ≤ most_rows) × (length issues.now ≡ most_rows) }
+    ensures { (result.at ≡ place_of issue (take kept issues.now)) × (result.compared ≡ compared_with (take kept issues.now) issue) }
 {
     let mut at: usize = 0;
     let mut compared: usize = 0;
@@ -69,7 +69,7 @@ pub fn first_row(
     places: &mut [u16; MOST_ROWS],
     kept: usize,
 ) -> FirstRow
-    requires { (row < mostRows) × (kept ≤ row) × (length issues.old ≡ mostRows) × (length places.old ≡ mostRows) }
+    requires { (row < most_rows) × (kept ≤ row) × (length issues.old ≡ most_rows) × (length places.old ≡ most_rows) }
     ensures { FirstRowFound issue row kept issues.old places.old result.at result.kept result.compared issues.new places.new }
 {
     if issue == 0 {

@@ -1,9 +1,9 @@
 // The sums of each issue, at the number of its first row.
 ghost use Rattle.std.specs.Prelude.{◌≡◌, ◌+◌, ◌*◌, ◌≤◌, ◌<◌, get_or, set, replicate};
-ghost use Rattle.book.specs.Counts.{countsOf};
-ghost use Rattle.book.specs.Refusals.{mostRows, mostAmount};
+ghost use Rattle.book.specs.Counts.{counts_of};
+ghost use Rattle.book.specs.Refusals.{most_rows, most_amount};
 ghost use Rattle.book.specs.Accepted.{Accepted};
-ghost use Rattle.book.specs.Inner.Reading.{partRows};
+ghost use Rattle.book.specs.Inner.Reading.{part_rows};
 ghost use Rattle.netting.specs.Inner.Gathering.{CanGather, Gathered, GatheredBook};
 
 use crate::firsts;
@@ -25,7 +25,7 @@ pub struct BookSums {
 
 // Adds an amount at a number.
 fn add(amount: u32, table: &mut [u64; MOST_ROWS], at: usize)
-    requires { (at < mostRows) × (get_or table.old at 0 ≤ mostAmount * mostRows) }
+    requires { (at < most_rows) × (get_or table.old at 0 ≤ most_amount * most_rows) }
     ensures { table.new ≡ set table.old at (get_or table.old at 0 + amount) }
 {
     table[at] += amount as u64;
@@ -39,8 +39,8 @@ fn gather_class(
     longs: &mut [u64; MOST_ROWS],
     shorts: &mut [u64; MOST_ROWS],
 ) -> ClassSums
-    requires { CanGather first (partRows part.now) longs.old shorts.old }
-    ensures { Gathered first (partRows part.now) result.row result.compared longs.old shorts.old longs.new shorts.new }
+    requires { CanGather first (part_rows part.now) longs.old shorts.old }
+    ensures { Gathered first (part_rows part.now) result.row result.compared longs.old shorts.old longs.new shorts.new }
 {
     let mut issues = [0u16; MOST_ROWS];
     let mut places = [0u16; MOST_ROWS];
@@ -70,7 +70,7 @@ pub fn gather_book(
     longs: &mut [u64; MOST_ROWS],
     shorts: &mut [u64; MOST_ROWS],
 ) -> BookSums
-    requires { (counts ≡ countsOf book.now) × Accepted book.now × (longs.old ≡ replicate mostRows 0) × (shorts.old ≡ replicate mostRows 0) }
+    requires { (counts ≡ counts_of book.now) × Accepted book.now × (longs.old ≡ replicate most_rows 0) × (shorts.old ≡ replicate most_rows 0) }
     ensures { GatheredBook book.now result.refusal result.compared longs.new shorts.new }
 {
     let mut compared: usize = 0;

@@ -4,11 +4,11 @@ pub mod gathering;
 mod nets;
 
 ghost use Rattle.std.specs.Prelude.{◌≡◌, length as len, replicate};
-ghost use Rattle.book.specs.Counts.{countsOf};
-ghost use Rattle.book.specs.Refusals.{mostRows};
+ghost use Rattle.book.specs.Counts.{counts_of};
+ghost use Rattle.book.specs.Refusals.{most_rows};
 ghost use Rattle.book.specs.Accepted.{Accepted};
-ghost use Rattle.netting.specs.Netted.{nettedOf, nettingOutput};
-ghost use Rattle.netting.specs.Inner.Nets.{Settled, refusedNetting};
+ghost use Rattle.netting.specs.Netted.{netted_of, netting_output};
+ghost use Rattle.netting.specs.Inner.Nets.{Settled, refused_netting};
 
 use crate::gathering::BookSums;
 use book::{Counts, MOST_ROWS, Refusal};
@@ -23,7 +23,7 @@ pub struct Netted {
 
 // Writes the netted book at the start of out; bytes past it keep their values, and all do where netting is refused.
 pub fn net(book: &[u8], out: &mut [u8]) -> Netted
-    ensures { (result ≡ nettedOf book.now (len out.old)) × (out.new ≡ nettingOutput book.now out.old) }
+    ensures { (result ≡ netted_of book.now (len out.old)) × (out.new ≡ netting_output book.now out.old) }
 {
     let checked = book::read(book);
     if checked.refusal.number != 0 {
@@ -34,8 +34,8 @@ pub fn net(book: &[u8], out: &mut [u8]) -> Netted
 
 // Nets an accepted book: 13, 14 and 12 are tried before a byte is written.
 fn net_accepted(book: &[u8], counts: Counts, out: &mut [u8]) -> Netted
-    requires { (counts ≡ countsOf book.now) × Accepted book.now }
-    ensures { (result ≡ nettedOf book.now (len out.old)) × (out.new ≡ nettingOutput book.now out.old) }
+    requires { (counts ≡ counts_of book.now) × Accepted book.now }
+    ensures { (result ≡ netted_of book.now (len out.old)) × (out.new ≡ netting_output book.now out.old) }
 {
     let mut longs = [0u64; MOST_ROWS];
     let mut shorts = [0u64; MOST_ROWS];
@@ -63,7 +63,7 @@ pub fn settle(
     longs: &mut [u64; MOST_ROWS],
     shorts: &mut [u64; MOST_ROWS],
 ) -> BookSums
-    requires { (counts ≡ countsOf book.now) × Accepted book.now × (longs.old ≡ replicate mostRows 0) × (shorts.old ≡ replicate mostRows 0) }
+    requires { (counts ≡ counts_of book.now) × Accepted book.now × (longs.old ≡ replicate most_rows 0) × (shorts.old ≡ replicate most_rows 0) }
     ensures { Settled book.now result.refusal result.compared longs.new shorts.new }
 {
     let sums = gathering::gather_book(book, counts, longs, shorts);
@@ -81,7 +81,7 @@ pub fn settle(
 
 // A refusal: nothing is written.
 pub fn refused(refusal: Refusal) -> Netted
-    ensures { result ≡ refusedNetting refusal }
+    ensures { result ≡ refused_netting refusal }
 {
     Netted {
         refusal,

@@ -15,16 +15,16 @@ use Rattle.ladder.specs.Position.{Bands, gross}
 use Rattle.issues.specs.Issues.{holding, placed}
 use Rattle.issues.proofs.Walking.{placed-none, placed-some}
 use Rattle.swaps.specs.Fitting.{opposite, fits}
-use Rattle.swaps.specs.Offset.{someFits, withoutFit}
-use Rattle.amounts.specs.Inner.Standing.{standingRows}
-use Rattle.amounts.specs.Inner.Own.{amountsOf}
+use Rattle.swaps.specs.Offset.{some_fits, without_fit}
+use Rattle.amounts.specs.Inner.Standing.{standing_rows}
+use Rattle.amounts.specs.Inner.Own.{amounts_of}
 use Rattle.amounts.proofs.Standing.{standing-same}
-use Rattle.offsetting.specs.Inner.Pairs.{fitFrom}
+use Rattle.offsetting.specs.Inner.Pairs.{fit_from}
 
 -- a row that was dropped fits none that is still there
-gone-fits : (leg row : Row) (position : Position) → (gross (amountsOf leg) ≡ 0 → ⊥) → gross position ≡ 0 → fits leg (holding row position) ≡ false
+gone_fits : (leg row : Row) (position : Position) → (gross (amounts_of leg) ≡ 0 → ⊥) → gross position ≡ 0 → fits leg (holding row position) ≡ false
 unfolding fits opposite
-gone-fits leg row position some none = go (fits leg (holding row position)) refl
+gone_fits leg row position some none = go (fits leg (holding row position)) refl
   where
     go : (test : Bool) → fits leg (holding row position) ≡ test → test ≡ false
     go true e =
@@ -35,56 +35,56 @@ gone-fits leg row position some none = go (fits leg (holding row position)) refl
 -- ---- the search
 module _ (leg : Row) (f : Bands) where
   -- it gives a number of the rows, or the one after the last
-  pub fit-within : (at : ℕ) (rows : List Row) → (at ≤ fitFrom leg f at rows) × (fitFrom leg f at rows ≤ at + length rows)
-  unfolding fitFrom
-  fit-within at [] = (omega arith, omega arith)
-  fit-within at (row ∷ rows) = go (fits leg (holding row (f at))) (fit-within (suc at) rows)
+  pub fit_within : (at : ℕ) (rows : List Row) → (at ≤ fit_from leg f at rows) × (fit_from leg f at rows ≤ at + length rows)
+  unfolding fit_from
+  fit_within at [] = (omega arith, omega arith)
+  fit_within at (row ∷ rows) = go (fits leg (holding row (f at))) (fit_within (suc at) rows)
     where
       rest : ℕ
-      rest = fitFrom leg f (suc at) rows
+      rest = fit_from leg f (suc at) rows
 
       go : (test : Bool) → (suc at ≤ rest) × (rest ≤ suc at + length rows) → (at ≤ cond test at rest) × (cond test at rest ≤ at + length (row ∷ rows))
       go true later = (omega arith, omega arith)
       go false later = (omega (arith, later.0), omega (arith, later.1))
 
   -- ---- none fits
-  pub none_found : (at : ℕ) (rows : List Row) → fitFrom leg f at rows ≡ at + length rows → someFits leg (standingRows f at rows) ≡ false
-  unfolding fitFrom standingRows someFits
+  pub none_found : (at : ℕ) (rows : List Row) → fit_from leg f at rows ≡ at + length rows → some_fits leg (standing_rows f at rows) ≡ false
+  unfolding fit_from standing_rows some_fits
   none_found at [] e = refl
   none_found at (row ∷ rows) e = go (fits leg (holding row (f at))) refl e (none_found (suc at) rows)
     where
       more : List Row
-      more = standingRows f (suc at) rows
+      more = standing_rows f (suc at) rows
 
-      with_row : fits leg (holding row (f at)) ≡ false → someFits leg more ≡ false → Dec (gross (f at) ≡ 0) → someFits leg (placed row (f at) more) ≡ false
+      with_row : fits leg (holding row (f at)) ≡ false → some_fits leg more ≡ false → Dec (gross (f at) ≡ 0) → some_fits leg (placed row (f at) more) ≡ false
       with_row other none (yes gone) = rw (placed-none row (f at) more gone) none
       with_row other none (no there) = rw (placed-some row (f at) more there, other) none
 
-      go : (test : Bool) → fits leg (holding row (f at)) ≡ test → cond test at (fitFrom leg f (suc at) rows) ≡ at + suc (length rows)
-          → (fitFrom leg f (suc at) rows ≡ suc at + length rows → someFits leg more ≡ false) → someFits leg (placed row (f at) more) ≡ false
+      go : (test : Bool) → fits leg (holding row (f at)) ≡ test → cond test at (fit_from leg f (suc at) rows) ≡ at + suc (length rows)
+          → (fit_from leg f (suc at) rows ≡ suc at + length rows → some_fits leg more ≡ false) → some_fits leg (placed row (f at) more) ≡ false
       go true t e later = let never : ⊥ = omega arith in absurd never
       go false t e later = with_row t (later (omega arith)) (ℕ_discrete (gross (f at)) 0)
 
   -- ---- one fits: it is the first, and is gone when its amounts are cleared
-  module _ (some : gross (amountsOf leg) ≡ 0 → ⊥) (g : Bands) (other : ℕ) (cleared : gross (g other) ≡ 0) where
-    pub found_some : (at : ℕ) (rows : List Row) → fitFrom leg f at rows ≡ other → other < at + length rows
+  module _ (some : gross (amounts_of leg) ≡ 0 → ⊥) (g : Bands) (other : ℕ) (cleared : gross (g other) ≡ 0) where
+    pub found_some : (at : ℕ) (rows : List Row) → fit_from leg f at rows ≡ other → other < at + length rows
         → ((k : ℕ) → at ≤ k → (k ≡ other → ⊥) → g k ≡ f k)
-        → (someFits leg (standingRows f at rows) ≡ true) × (withoutFit leg (standingRows f at rows) ≡ standingRows g at rows)
-    unfolding fitFrom standingRows someFits withoutFit
+        → (some_fits leg (standing_rows f at rows) ≡ true) × (without_fit leg (standing_rows f at rows) ≡ standing_rows g at rows)
+    unfolding fit_from standing_rows some_fits without_fit
     found_some at [] e h same = let never : ⊥ = omega arith in absurd never
     found_some at (row ∷ rows) e h same = go (fits leg (holding row (f at))) refl e (λ e' h'. found_some (suc at) rows e' h' (λ k low. same k (omega arith)))
       where
         more : List Row
-        more = standingRows f (suc at) rows
+        more = standing_rows f (suc at) rows
 
         left : List Row
-        left = standingRows g (suc at) rows
+        left = standing_rows g (suc at) rows
 
         Both : List Row → List Row → Type 0
-        Both rows left = (someFits leg rows ≡ true) × (withoutFit leg rows ≡ left)
+        Both rows left = (some_fits leg rows ≡ true) × (without_fit leg rows ≡ left)
 
         here : fits leg (holding row (f at)) ≡ true → at ≡ other → Dec (gross (f at) ≡ 0) → Both (placed row (f at) more) (placed row (g at) left)
-        here t own (yes gone) = absurd (true≢false (sym t ∙ gone-fits leg row (f at) some gone))
+        here t own (yes gone) = absurd (true≢false (sym t ∙ gone_fits leg row (f at) some gone))
         here t own (no there) =
             let rest = standing-same f g (suc at) rows (λ k h. sym (same (suc at + k) (omega arith) (λ e. omega (arith, own)))) in
             rw (placed-some row (f at) more there, placed-none row (g at) left (ap (λ (k : ℕ). gross (g k)) own ∙ cleared), t) (refl, rest)
@@ -93,9 +93,9 @@ module _ (leg : Row) (f : Bands) where
         later t next (yes gone) = rw (placed-none row (f at) more gone, placed-none row (f at) left gone) next
         later t next (no there) = rw (placed-some row (f at) more there, placed-some row (f at) left there, t) (next.0, ap (λ (l : List Row). holding row (f at) ∷ l) next.1)
 
-        go : (test : Bool) → fits leg (holding row (f at)) ≡ test → cond test at (fitFrom leg f (suc at) rows) ≡ other
-            → (fitFrom leg f (suc at) rows ≡ other → other < suc at + length rows → Both more left) → Both (placed row (f at) more) (placed row (g at) left)
+        go : (test : Bool) → fits leg (holding row (f at)) ≡ test → cond test at (fit_from leg f (suc at) rows) ≡ other
+            → (fit_from leg f (suc at) rows ≡ other → other < suc at + length rows → Both more left) → Both (placed row (f at) more) (placed row (g at) left)
         go true t e next = here t e (ℕ_discrete (gross (f at)) 0)
         go false t e next =
-            let apart : at ≡ other → ⊥ = λ own. omega (arith, (fit-within (suc at) rows).0) in
+            let apart : at ≡ other → ⊥ = λ own. omega (arith, (fit_within (suc at) rows).0) in
             rw (same at (omega arith) apart) (later t (next e (omega arith)) (ℕ_discrete (gross (f at)) 0))

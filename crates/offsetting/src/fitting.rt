@@ -1,6 +1,6 @@
 // Which two swap legs fit.
 ghost use Rattle.std.specs.Prelude.{◌≡◌, min};
-ghost use Rattle.swaps.specs.Fitting.{apart as apartOf, mostDaysApart, government as governmentOf, near as nearOf};
+ghost use Rattle.swaps.specs.Fitting.{apart as apartOf, most_days_apart, government as governmentOf, near as nearOf};
 
 use book::Row;
 
@@ -24,7 +24,7 @@ fn nearer(a: u16, b: u16) -> u16
 
 // How far the days of two legs may be apart, by the nearer.
 fn most_days_apart(days: u16) -> u16
-    ensures { result ≡ mostDaysApart days }
+    ensures { result ≡ most_days_apart days }
 {
     if days < 30 {
         return 0;

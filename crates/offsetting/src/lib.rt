@@ -3,12 +3,12 @@ mod fitting;
 mod pairs;
 
 ghost use Rattle.std.specs.Prelude.{◌≡◌, length as len};
-ghost use Rattle.book.specs.Counts.{countsOf};
-ghost use Rattle.book.specs.Legs.{legsOf, ofClass};
+ghost use Rattle.book.specs.Counts.{counts_of};
+ghost use Rattle.book.specs.Legs.{legs_of, of_class};
 ghost use Rattle.book.specs.Accepted.{Accepted};
 ghost use Rattle.amounts.specs.Inner.Standing.{Tables};
-ghost use Rattle.offsetting.specs.Offset.{offset_of, offsettingOutput};
-ghost use Rattle.offsetting.specs.NetOffset.{netOffsetOf, netOffsetOutput};
+ghost use Rattle.offsetting.specs.Offset.{offset_of, offsetting_output};
+ghost use Rattle.offsetting.specs.NetOffset.{net_offset_of, net_offset_output};
 ghost use Rattle.offsetting.specs.Inner.Pairs.{Dropped};
 
 use book::{Counts, MOST_ROWS};
@@ -17,7 +17,7 @@ use netting::Netted;
 
 // Writes the book without the pairs that fit at the start of out; bytes past it keep their values, and all do where offsetting is refused.
 pub fn offset(book: &[u8], out: &mut [u8]) -> Written
-    ensures { (result ≡ offset_of book.now (len out.old)) × (out.new ≡ offsettingOutput book.now out.old) }
+    ensures { (result ≡ offset_of book.now (len out.old)) × (out.new ≡ offsetting_output book.now out.old) }
 {
     let checked = book::read(book);
     let refusal = checked.refusal;
@@ -34,16 +34,16 @@ fn drop_interest(
     longs: &mut [u64; MOST_ROWS],
     shorts: &mut [u64; MOST_ROWS],
 )
-    requires { (counts ≡ countsOf book.now) × Accepted book.now × Tables longs.old shorts.old }
-    ensures { Dropped (ofClass 1 (legsOf book.now)) longs.old shorts.old longs.new shorts.new }
+    requires { (counts ≡ counts_of book.now) × Accepted book.now × Tables longs.old shorts.old }
+    ensures { Dropped (of_class 1 (legs_of book.now)) longs.old shorts.old longs.new shorts.new }
 {
     pairs::drop_pairs(book::body(book, counts, 1), longs, shorts);
 }
 
 // Offsets an accepted book: 12 is tried before a byte is written.
 fn offset_accepted(book: &[u8], counts: Counts, out: &mut [u8]) -> Written
-    requires { (counts ≡ countsOf book.now) × Accepted book.now }
-    ensures { (result ≡ offset_of book.now (len out.old)) × (out.new ≡ offsettingOutput book.now out.old) }
+    requires { (counts ≡ counts_of book.now) × Accepted book.now }
+    ensures { (result ≡ offset_of book.now (len out.old)) × (out.new ≡ offsetting_output book.now out.old) }
 {
     let mut longs = [0u64; MOST_ROWS];
     let mut shorts = [0u64; MOST_ROWS];
@@ -54,7 +54,7 @@ fn offset_accepted(book: &[u8], counts: Counts, out: &mut [u8]) -> Written
 
 // Writes the netted book without the pairs that fit at the start of out; bytes past it keep their values, and all do where the call is refused.
 pub fn net_and_offset(book: &[u8], out: &mut [u8]) -> Netted
-    ensures { (result ≡ netOffsetOf book.now (len out.old)) × (out.new ≡ netOffsetOutput book.now out.old) }
+    ensures { (result ≡ net_offset_of book.now (len out.old)) × (out.new ≡ net_offset_output book.now out.old) }
 {
     let checked = book::read(book);
     if checked.refusal.number != 0 {
@@ -65,8 +65,8 @@ pub fn net_and_offset(book: &[u8], out: &mut [u8]) -> Netted
 
 // Nets an accepted book and offsets the netted rows: 13, 14 and 12 are tried before a byte is written.
 fn net_and_offset_accepted(book: &[u8], counts: Counts, out: &mut [u8]) -> Netted
-    requires { (counts ≡ countsOf book.now) × Accepted book.now }
-    ensures { (result ≡ netOffsetOf book.now (len out.old)) × (out.new ≡ netOffsetOutput book.now out.old) }
+    requires { (counts ≡ counts_of book.now) × Accepted book.now }
+    ensures { (result ≡ net_offset_of book.now (len out.old)) × (out.new ≡ net_offset_output book.now out.old) }
 {
     let mut longs = [0u64; MOST_ROWS];
     let mut shorts = [0u64; MOST_ROWS];

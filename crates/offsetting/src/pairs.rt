@@ -1,11 +1,11 @@
 // Pairs of rows that fit: found, and dropped by clearing their amounts.
 ghost use Rattle.std.specs.Prelude.{◌≡◌, suc, ◌≤◌, ◌<◌, length, drop};
-ghost use Rattle.book.specs.Refusals.{mostRows};
-ghost use Rattle.book.specs.Inner.Reading.{row_of, partRows};
+ghost use Rattle.book.specs.Refusals.{most_rows};
+ghost use Rattle.book.specs.Inner.Reading.{row_of, part_rows};
 ghost use Rattle.issues.specs.Issues.{holding};
 ghost use Rattle.swaps.specs.Fitting.{fits};
-ghost use Rattle.amounts.specs.Inner.Standing.{positionsIn, Tables};
-ghost use Rattle.offsetting.specs.Inner.Pairs.{fitFrom, fitFor, clearedIn, Dropped};
+ghost use Rattle.amounts.specs.Inner.Standing.{positions_in, Tables};
+ghost use Rattle.offsetting.specs.Inner.Pairs.{fit_from, fit_for, cleared_in, Dropped};
 
 use crate::fitting;
 use book::{MOST_ROWS, Row};
@@ -20,8 +20,8 @@ fn fits_at(
     longs: &[u64; MOST_ROWS],
     shorts: &[u64; MOST_ROWS],
 ) -> bool
-    requires { (row < length (partRows part.now)) × (row < mostRows) }
-    ensures { result ≡ fits (holding leg amounts) (holding (row_of part.now row) (positionsIn longs.now shorts.now row)) }
+    requires { (row < length (part_rows part.now)) × (row < most_rows) }
+    ensures { result ≡ fits (holding leg amounts) (holding (row_of part.now row) (positions_in longs.now shorts.now row)) }
 {
     if amounts.long != shorts[row] {
         return false;
@@ -41,8 +41,8 @@ fn first_fit(
     longs: &[u64; MOST_ROWS],
     shorts: &[u64; MOST_ROWS],
 ) -> usize
-    requires { (from ≤ length (partRows part.now)) × (length (partRows part.now) ≤ mostRows) }
-    ensures { result ≡ fitFrom (holding leg amounts) (positionsIn longs.now shorts.now) from (drop from (partRows part.now)) }
+    requires { (from ≤ length (part_rows part.now)) × (length (part_rows part.now) ≤ most_rows) }
+    ensures { result ≡ fit_from (holding leg amounts) (positions_in longs.now shorts.now) from (drop from (part_rows part.now)) }
 {
     let many = book::rows::row_count(part);
     let mut row: usize = from;
@@ -57,8 +57,8 @@ fn first_fit(
 
 // The number of the first later row that fits a row; where that was dropped, or none fits, the number of rows.
 fn fit_for(part: &[u8], row: usize, longs: &[u64; MOST_ROWS], shorts: &[u64; MOST_ROWS]) -> usize
-    requires { (row < length (partRows part.now)) × (length (partRows part.now) ≤ mostRows) }
-    ensures { result ≡ fitFor (partRows part.now) (positionsIn longs.now shorts.now) row }
+    requires { (row < length (part_rows part.now)) × (length (part_rows part.now) ≤ most_rows) }
+    ensures { result ≡ fit_for (part_rows part.now) (positions_in longs.now shorts.now) row }
 {
     let amounts = amounts::counting::amounts_at(longs, shorts, row);
     if !amounts::counting::is_left(amounts) {
@@ -79,8 +79,8 @@ fn drop_pair(
     longs: &mut [u64; MOST_ROWS],
     shorts: &mut [u64; MOST_ROWS],
 )
-    requires { (row < many) × (many ≤ mostRows) × Tables longs.old shorts.old }
-    ensures { (longs.new ≡ clearedIn row other many longs.old) × (shorts.new ≡ clearedIn row other many shorts.old) }
+    requires { (row < many) × (many ≤ most_rows) × Tables longs.old shorts.old }
+    ensures { (longs.new ≡ cleared_in row other many longs.old) × (shorts.new ≡ cleared_in row other many shorts.old) }
 {
     if many <= other {
         return;
@@ -93,8 +93,8 @@ fn drop_pair(
 
 // Drops each row, in order, with the first later row that fits and is still there.
 pub fn drop_pairs(part: &[u8], longs: &mut [u64; MOST_ROWS], shorts: &mut [u64; MOST_ROWS])
-    requires { (length (partRows part.now) ≤ mostRows) × Tables longs.old shorts.old }
-    ensures { Dropped (partRows part.now) longs.old shorts.old longs.new shorts.new }
+    requires { (length (part_rows part.now) ≤ most_rows) × Tables longs.old shorts.old }
+    ensures { Dropped (part_rows part.now) longs.old shorts.old longs.new shorts.new }
 {
     let many = book::rows::row_count(part);
     let mut row: usize = 0;

@@ -6,19 +6,19 @@ use mathlib.Core.List.{List, [], ◌∷◌}
 use Prim.Native.Nat.{ℕ, zero, suc, ◌+◌, ◌*◌, ◌≤◌}
 use native.Mathlib.Omega.{arith}
 use lib.ListN.{length, length-map}
-use borrow.Author.Tests.{leb-true, le-leb, ltb-false, le-ltb, eqb-true, eq-eqb, not-false}
+use borrow.Author.Tests.{leb-true, le-leb, ltb-false, le-ltb, eqb-true, eq-eqb, not_false}
 use Rattle.sums.specs.Sums.{span}
 use Rattle.sums.specs.Every.{Every, none, also}
 use Rattle.sums.proofs.Cases.{neither, both}
 use Rattle.book.specs.Refusals.{refused}
-use Rattle.options.specs.Table.{OptionRow, countSize, optionSize, optionCount, optionAt, optionsOf}
-use Rattle.options.specs.Refusals.{mostOptions, lengthRefused, sortAllowed, sizeAllowed, allowed, firstOutside, optionsRefusal}
+use Rattle.options.specs.Table.{OptionRow, count_size, option_size, option_count, option_at, options_of}
+use Rattle.options.specs.Refusals.{most_options, length_refused, sort_allowed, size_allowed, allowed, first_outside, options_refusal}
 use Rattle.options.specs.Accepted.{Allowed, AcceptedOptions}
 
 -- ---- a row
-in-ranges : (option : OptionRow) → allowed option ≡ true → Allowed option
-unfolding allowed sortAllowed sizeAllowed
-in-ranges option e =
+in_ranges : (option : OptionRow) → allowed option ≡ true → Allowed option
+unfolding allowed sort_allowed size_allowed
+in_ranges option e =
     let parts = both _ _ e in
     let classed = both _ _ parts.0 in
     let class = both _ _ classed.0 in
@@ -29,84 +29,84 @@ in-ranges option e =
     let sizes = both _ _ parts.1 in
     let amount = both _ _ sizes.0 in
     record {
-      class-from = leb-true _ _ class.0;
-      class-to = leb-true _ _ class.1;
+      class_from = leb-true _ _ class.0;
+      class_to = leb-true _ _ class.1;
       group = leb-true _ _ grouped.0;
       right = leb-true _ _ righted.0;
-      kind-from = leb-true _ _ kind.0;
-      kind-to = leb-true _ _ kind.1;
+      kind_from = leb-true _ _ kind.0;
+      kind_to = leb-true _ _ kind.1;
       days = leb-true _ _ kinded.1;
-      amount-from = leb-true _ _ amount.0;
-      amount-to = leb-true _ _ amount.1;
+      amount_from = leb-true _ _ amount.0;
+      amount_to = leb-true _ _ amount.1;
       delta = leb-true _ _ sizes.1;
     }
 
 ranges_in : (option : OptionRow) → Allowed option → allowed option ≡ true
-unfolding allowed sortAllowed sizeAllowed
+unfolding allowed sort_allowed size_allowed
 ranges_in option ok =
     simp (
-      le-leb _ _ ok.class-from,
-      le-leb _ _ ok.class-to,
+      le-leb _ _ ok.class_from,
+      le-leb _ _ ok.class_to,
       le-leb _ _ ok.group,
       le-leb _ _ ok.right,
-      le-leb _ _ ok.kind-from,
-      le-leb _ _ ok.kind-to,
+      le-leb _ _ ok.kind_from,
+      le-leb _ _ ok.kind_to,
       le-leb _ _ ok.days,
-      le-leb _ _ ok.amount-from,
-      le-leb _ _ ok.amount-to,
+      le-leb _ _ ok.amount_from,
+      le-leb _ _ ok.amount_to,
       le-leb _ _ ok.delta,
     )
 
 -- ---- all rows
-none-outside : (row : ℕ) (options : List OptionRow) → (firstOutside row options).number ≡ 0 → Every Allowed options
-unfolding firstOutside refused
-none-outside row [] e = none
-none-outside row (option ∷ options) e = go (none-outside (suc row) options) (allowed option) refl e
+none_outside : (row : ℕ) (options : List OptionRow) → (first_outside row options).number ≡ 0 → Every Allowed options
+unfolding first_outside refused
+none_outside row [] e = none
+none_outside row (option ∷ options) e = go (none_outside (suc row) options) (allowed option) refl e
   where
-    go : ((firstOutside (suc row) options).number ≡ 0 → Every Allowed options) → (passes : Bool) → allowed option ≡ passes
-        → (cond passes (firstOutside (suc row) options) (refused 17 row)).number ≡ 0 → Every Allowed (option ∷ options)
-    go later true t e = also (in-ranges option t) (later e)
+    go : ((first_outside (suc row) options).number ≡ 0 → Every Allowed options) → (passes : Bool) → allowed option ≡ passes
+        → (cond passes (first_outside (suc row) options) (refused 17 row)).number ≡ 0 → Every Allowed (option ∷ options)
+    go later true t e = also (in_ranges option t) (later e)
     go later false t e = let never : ⊥ = omega arith in absurd never
 
-outside-none : (row : ℕ) {options : List OptionRow} → Every Allowed options → firstOutside row options ≡ refused 0 0
-unfolding firstOutside
+outside-none : (row : ℕ) {options : List OptionRow} → Every Allowed options → first_outside row options ≡ refused 0 0
+unfolding first_outside
 outside-none row none = refl
 outside-none row (also {a = option} ok later) = rw (ranges_in option ok) (outside-none (suc row) later)
 
 -- ---- the table
 pub record TableSized (s : List ℕ) : Type 0 where
-  pub counted : countSize ≤ length s
-  pub few : optionCount s ≤ mostOptions
-  pub sized : length s ≡ countSize + optionSize * optionCount s
+  pub counted : count_size ≤ length s
+  pub few : option_count s ≤ most_options
+  pub sized : length s ≡ count_size + option_size * option_count s
 
-pub table-sized : (s : List ℕ) → lengthRefused s ≡ false → TableSized s
-unfolding lengthRefused
-table-sized s e =
+pub table_sized : (s : List ℕ) → length_refused s ≡ false → TableSized s
+unfolding length_refused
+table_sized s e =
     let parts = neither _ _ e in
     let later = neither _ _ parts.1 in
-    record { counted = ltb-false _ _ parts.0; few = ltb-false _ _ later.0; sized = eqb-true _ _ (not-false _ later.1) }
+    record { counted = ltb-false _ _ parts.0; few = ltb-false _ _ later.0; sized = eqb-true _ _ (not_false _ later.1) }
 
-sized-table : (s : List ℕ) → TableSized s → lengthRefused s ≡ false
-unfolding lengthRefused
-sized-table s table = simp (le-ltb _ _ table.counted, le-ltb _ _ table.few, eq-eqb _ _ table.sized)
+sized_table : (s : List ℕ) → TableSized s → length_refused s ≡ false
+unfolding length_refused
+sized_table s table = simp (le-ltb _ _ table.counted, le-ltb _ _ table.few, eq-eqb _ _ table.sized)
 
 -- a table that passes 16 and 17, and back
-pub accepted-options : (s : List ℕ) → (optionsRefusal s).number ≡ 0 → AcceptedOptions s
-unfolding optionsRefusal refused
-accepted-options s = go (lengthRefused s) refl
+pub accepted_options : (s : List ℕ) → (options_refusal s).number ≡ 0 → AcceptedOptions s
+unfolding options_refusal refused
+accepted_options s = go (length_refused s) refl
   where
-    go : (test : Bool) → lengthRefused s ≡ test → (cond test (refused 16 0) (firstOutside 0 (optionsOf s))).number ≡ 0 → AcceptedOptions s
+    go : (test : Bool) → length_refused s ≡ test → (cond test (refused 16 0) (first_outside 0 (options_of s))).number ≡ 0 → AcceptedOptions s
     go true t e = let never : ⊥ = omega arith in absurd never
     go false t e =
-        let table = table-sized s t in
-        record { counted = table.counted; few = table.few; sized = table.sized; every = none-outside 0 (optionsOf s) e }
+        let table = table_sized s t in
+        record { counted = table.counted; few = table.few; sized = table.sized; every = none_outside 0 (options_of s) e }
 
-pub accepted-sized : {s : List ℕ} → AcceptedOptions s → TableSized s
-accepted-sized ok = record { counted = ok.counted; few = ok.few; sized = ok.sized }
+pub accepted_sized : {s : List ℕ} → AcceptedOptions s → TableSized s
+accepted_sized ok = record { counted = ok.counted; few = ok.few; sized = ok.sized }
 
-pub options-taken : (s : List ℕ) → AcceptedOptions s → optionsRefusal s ≡ refused 0 0
-unfolding optionsRefusal
-options-taken s ok = rw (sized-table s (accepted-sized ok)) (outside-none 0 ok.every)
+pub options_taken : (s : List ℕ) → AcceptedOptions s → options_refusal s ≡ refused 0 0
+unfolding options_refusal
+options_taken s ok = rw (sized_table s (accepted_sized ok)) (outside-none 0 ok.every)
 
 -- as many rows as the table says
 span-length : (start n : ℕ) → length (span start n) ≡ n
@@ -114,6 +114,6 @@ unfolding span
 span-length start zero = refl
 span-length start (suc n) = ap suc (span-length (suc start) n)
 
-pub options-length : (s : List ℕ) → length (optionsOf s) ≡ optionCount s
-unfolding optionsOf
-options-length s = length-map (span 0 (optionCount s)) (optionAt s) ∙ span-length 0 (optionCount s)
+pub options_length : (s : List ℕ) → length (options_of s) ≡ option_count s
+unfolding options_of
+options_length s = length-map (span 0 (option_count s)) (option_at s) ∙ span-length 0 (option_count s)

@@ -1,43 +1,43 @@
 -- What the call gives of an option table (P9): the book of the deltas, gamma and vega by class, and what the book costs.
 use Rattle.std.specs.Prelude.{ℕ, cond, List, [], ◌∷◌, map, eqb, length}
 use Rattle.book.specs.declared.Refusal.{Refusal}
-use Rattle.layout.specs.Room.{orNext, roomRefusal, figureOf, outputOf}
-use Rattle.table.specs.Loaded.{standardBytes}
-use Rattle.charges.specs.Report.{refusedReport, reportOf}
-use Rattle.options.specs.Table.{OptionRow, optionsOf}
-use Rattle.options.specs.Refusals.{optionsRefusal}
-use Rattle.options.specs.Delta.{deltaBook}
-use Rattle.options.specs.Greeks.{gammaCharge, vegaCharge}
+use Rattle.layout.specs.Room.{or_next, room_refusal, figure_of, output_of}
+use Rattle.table.specs.Loaded.{standard_bytes}
+use Rattle.charges.specs.Report.{refused_report, report_of}
+use Rattle.options.specs.Table.{OptionRow, options_of}
+use Rattle.options.specs.Refusals.{options_refusal}
+use Rattle.options.specs.Delta.{delta_book}
+use Rattle.options.specs.Greeks.{gamma_charge, vega_charge}
 pub use Rattle.options.specs.declared.Priced.{Priced}
 
 -- options are on equity, foreign exchange and commodities (P9)
-abbrev pub optionClasses : List ℕ
-optionClasses = 2 ∷ 3 ∷ 4 ∷ []
+abbrev pub option_classes : List ℕ
+option_classes = 2 ∷ 3 ∷ 4 ∷ []
 
 -- the book of the deltas of a table (P9)
-unfoldable pub optionsBook : List ℕ → List ℕ
-optionsBook s = deltaBook (optionsOf s)
+unfoldable pub options_book : List ℕ → List ℕ
+options_book s = delta_book (options_of s)
 
 -- the refusal, into an output of so many bytes: 16, 17, then 12 (P9)
-unfoldable pub pricingRefusal : List ℕ → ℕ → Refusal
-pricingRefusal s room = orNext (optionsRefusal s) (roomRefusal (length (optionsBook s)) room)
+unfoldable pub pricing_refusal : List ℕ → ℕ → Refusal
+pricing_refusal s room = or_next (options_refusal s) (room_refusal (length (options_book s)) room)
 
 -- a charge of each of those classes, 0 where the call is refused (P9)
-unfoldable pub byClass : Refusal → (ℕ → List OptionRow → ℕ) → List OptionRow → List ℕ
-byClass refusal charge options = map (λ class. figureOf refusal (charge class options)) optionClasses
+unfoldable pub by_class : Refusal → (ℕ → List OptionRow → ℕ) → List OptionRow → List ℕ
+by_class refusal charge options = map (λ class. figure_of refusal (charge class options)) option_classes
 
 -- the answer: the refusal, the length of the book, gamma and vega by class, and the report of the book by document 01's table (P9)
-unfoldable pub pricedOf : List ℕ → ℕ → Priced
-pricedOf s room =
-    let refusal = pricingRefusal s room in
+unfoldable pub priced_of : List ℕ → ℕ → Priced
+priced_of s room =
+    let refusal = pricing_refusal s room in
     record {
       refusal = refusal;
-      length = figureOf refusal (length (optionsBook s));
-      gammas = byClass refusal gammaCharge (optionsOf s);
-      vegas = byClass refusal vegaCharge (optionsOf s);
-      report = cond (eqb refusal.number 0) (reportOf standardBytes (optionsBook s)) (refusedReport refusal);
+      length = figure_of refusal (length (options_book s));
+      gammas = by_class refusal gamma_charge (options_of s);
+      vegas = by_class refusal vega_charge (options_of s);
+      report = cond (eqb refusal.number 0) (report_of standard_bytes (options_book s)) (refused_report refusal);
     }
 
 -- the output afterwards (P9)
-unfoldable pub pricingOutput : List ℕ → List ℕ → List ℕ
-pricingOutput s out = outputOf (pricingRefusal s (length out)) (optionsBook s) out
+unfoldable pub pricing_output : List ℕ → List ℕ → List ℕ
+pricing_output s out = output_of (pricing_refusal s (length out)) (options_book s) out

@@ -2,12 +2,12 @@
 ghost use Rattle.std.specs.Prelude.{◌≡◌, ◌*◌, ◌≤◌, get_or};
 ghost use Rattle.sums.specs.Sums.{sum_of};
 ghost use Rattle.charges.specs.Charges.{groups};
-ghost use Rattle.options.specs.Table.{optionsOf};
-ghost use Rattle.options.specs.Refusals.{mostOptions};
-ghost use Rattle.options.specs.Greeks.{gammaCharge, vegaCharge};
+ghost use Rattle.options.specs.Table.{options_of};
+ghost use Rattle.options.specs.Refusals.{most_options};
+ghost use Rattle.options.specs.Greeks.{gamma_charge, vega_charge};
 ghost use Rattle.options.specs.Inner.Reading.{Taken};
-ghost use Rattle.options.specs.Inner.Sums.{mostTwiceGamma, amountOf, most_of, Gathered, halfExcess};
-ghost use Rattle.options.specs.Inner.Answers.{eachClass};
+ghost use Rattle.options.specs.Inner.Sums.{most_twice_gamma, amount_of, most_of, Gathered, half_excess};
+ghost use Rattle.options.specs.Inner.Answers.{each_class};
 
 use crate::{impacts, rows};
 
@@ -27,7 +27,7 @@ struct Sides {
 // The sums of a class, of vega or of twice gamma, in one pass over the table.
 fn gather(table: &[u8], many: usize, class: u8, vega: bool) -> Sides
     requires { Taken table.now many }
-    ensures { Gathered (amountOf vega) (most_of vega) class many (optionsOf table.now) result.bought result.sold }
+    ensures { Gathered (amount_of vega) (most_of vega) class many (options_of table.now) result.bought result.sold }
 {
     let mut bought = [0u64; GROUPS];
     let mut sold = [0u64; GROUPS];
@@ -45,7 +45,7 @@ fn gather(table: &[u8], many: usize, class: u8, vega: bool) -> Sides
 
 // Half of what the sold side exceeds the bought by, rounded up.
 fn half_short(bought: u64, sold: u64) -> u64
-    ensures { result ≡ halfExcess bought sold }
+    ensures { result ≡ half_excess bought sold }
 {
     if sold < bought {
         return 0;
@@ -56,8 +56,8 @@ fn half_short(bought: u64, sold: u64) -> u64
 
 // That of every group, summed.
 fn half_shorts(bought: &[u64; GROUPS], sold: &[u64; GROUPS]) -> u64
-    requires { sum_of (λ group. halfExcess (get_or bought.now group 0) (get_or sold.now group 0)) groups ≤ mostOptions * mostTwiceGamma }
-    ensures { result ≡ sum_of (λ group. halfExcess (get_or bought.now group 0) (get_or sold.now group 0)) groups }
+    requires { sum_of (λ group. half_excess (get_or bought.now group 0) (get_or sold.now group 0)) groups ≤ most_options * most_twice_gamma }
+    ensures { result ≡ sum_of (λ group. half_excess (get_or bought.now group 0) (get_or sold.now group 0)) groups }
 {
     let mut charge: u64 = 0;
     let mut group: usize = 0;
@@ -70,7 +70,7 @@ fn half_shorts(bought: &[u64; GROUPS], sold: &[u64; GROUPS]) -> u64
 
 fn gamma_charge(table: &[u8], many: usize, class: u8) -> u64
     requires { Taken table.now many }
-    ensures { result ≡ gammaCharge class (optionsOf table.now) }
+    ensures { result ≡ gamma_charge class (options_of table.now) }
 {
     let sides = gather(table, many, class, false);
     let bought = sides.bought;
@@ -80,7 +80,7 @@ fn gamma_charge(table: &[u8], many: usize, class: u8) -> u64
 
 fn vega_charge(table: &[u8], many: usize, class: u8) -> u64
     requires { Taken table.now many }
-    ensures { result ≡ vegaCharge class (optionsOf table.now) }
+    ensures { result ≡ vega_charge class (options_of table.now) }
 {
     let sides = gather(table, many, class, true);
     let bought = sides.bought;
@@ -91,7 +91,7 @@ fn vega_charge(table: &[u8], many: usize, class: u8) -> u64
 // The gamma charges of equity, foreign exchange and commodities.
 pub fn gammas(table: &[u8], many: usize) -> [u64; 3]
     requires { Taken table.now many }
-    ensures { result ≡ eachClass gammaCharge (optionsOf table.now) }
+    ensures { result ≡ each_class gamma_charge (options_of table.now) }
 {
     [
         gamma_charge(table, many, 2),
@@ -103,7 +103,7 @@ pub fn gammas(table: &[u8], many: usize) -> [u64; 3]
 // The vega charges of the same.
 pub fn vegas(table: &[u8], many: usize) -> [u64; 3]
     requires { Taken table.now many }
-    ensures { result ≡ eachClass vegaCharge (optionsOf table.now) }
+    ensures { result ≡ each_class vega_charge (options_of table.now) }
 {
     [
         vega_charge(table, many, 2),

@@ -1,8 +1,8 @@
 // What an option counts for: vega, or twice its gamma impact; and for which side of which class.
 ghost use Rattle.std.specs.Prelude.{◌≡◌, cond, not, ◌&&◌, ◌≤◌, eqb};
-ghost use Rattle.options.specs.Greeks.{isBought, move_of, twiceGamma, vegaOf};
+ghost use Rattle.options.specs.Greeks.{is_bought, move_of, twice_gamma, vega_of};
 ghost use Rattle.options.specs.Accepted.{Allowed};
-ghost use Rattle.options.specs.Inner.Sums.{AmountOf, mostTwiceGamma, mostVega};
+ghost use Rattle.options.specs.Inner.Sums.{AmountOf, most_twice_gamma, most_vega};
 
 use crate::OptionRow;
 
@@ -16,14 +16,14 @@ fn move_of(class: u8) -> u64
 // Twice the gamma impact of an option, in mils.
 fn twice_gamma(option: OptionRow) -> u64
     requires { Allowed option }
-    ensures { (result ≡ twiceGamma option) × (result ≤ mostTwiceGamma) }
+    ensures { (result ≡ twice_gamma option) × (result ≤ most_twice_gamma) }
 {
     let by = move_of(option.class);
     (option.amount as u64) * (option.gamma as u64) * (by * by)
 }
 
 fn vega_of(option: OptionRow) -> u64
-    ensures { (result ≡ vegaOf option) × (result ≤ mostVega) }
+    ensures { (result ≡ vega_of option) × (result ≤ most_vega) }
 {
     (option.vega as u64) * (option.volatility as u64)
 }
@@ -41,7 +41,7 @@ pub fn amount_of(option: OptionRow, vega: bool) -> u64
 
 // An amount where the option is of the class and bought, else none.
 pub fn bought_in(option: OptionRow, class: u8, amount: u64) -> u64
-    ensures { result ≡ cond (eqb option.class class && isBought option) amount 0 }
+    ensures { result ≡ cond (eqb option.class class && is_bought option) amount 0 }
 {
     if option.class != class {
         return 0;
@@ -51,7 +51,7 @@ pub fn bought_in(option: OptionRow, class: u8, amount: u64) -> u64
 
 // An amount where the option is of the class and sold, else none.
 pub fn sold_in(option: OptionRow, class: u8, amount: u64) -> u64
-    ensures { result ≡ cond (eqb option.class class && not (isBought option)) amount 0 }
+    ensures { result ≡ cond (eqb option.class class && not (is_bought option)) amount 0 }
 {
     if option.class != class {
         return 0;

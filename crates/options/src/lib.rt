@@ -5,8 +5,8 @@ mod impacts;
 mod rows;
 
 ghost use Rattle.std.specs.Prelude.{◌≡◌, length as len};
-ghost use Rattle.options.specs.Options.{pricedOf, pricingOutput};
-ghost use Rattle.options.specs.Inner.Answers.{refusedPricing};
+ghost use Rattle.options.specs.Options.{priced_of, pricing_output};
+ghost use Rattle.options.specs.Inner.Answers.{refused_pricing};
 
 use book::{CONTENTS_SIZE, ROW_SIZE, Refusal};
 use charges::Report;
@@ -40,7 +40,7 @@ pub struct Priced {
 // Writes the book of an option table's deltas at the start of out, and charges gamma, vega and the book by the Amendment's table; bytes past it keep
 // their values, and all do where the call is refused.
 pub fn options(table: &[u8], out: &mut [u8]) -> Priced
-    ensures { (result ≡ pricedOf table.now (len out.old)) × (out.new ≡ pricingOutput table.now out.old) }
+    ensures { (result ≡ priced_of table.now (len out.old)) × (out.new ≡ pricing_output table.now out.old) }
 {
     let told = rows::refusal(table);
     if told.number != 0 {
@@ -67,7 +67,7 @@ pub fn options(table: &[u8], out: &mut [u8]) -> Priced
 
 // The answer of a refused call.
 fn refused(refusal: Refusal) -> Priced
-    ensures { result ≡ refusedPricing refusal }
+    ensures { result ≡ refused_pricing refusal }
 {
     Priced {
         refusal,

@@ -1,7 +1,7 @@
 // The rows of an option table, and whether their fields are in range.
 ghost use Rattle.std.specs.Prelude.{◌≡◌, ◌+◌, ◌*◌, ◌≤◌, length};
-ghost use Rattle.options.specs.Table.{countSize, optionSize, optionCount, optionAt, optionsOf};
-ghost use Rattle.options.specs.Refusals.{lengthRefused, sortAllowed, sizeAllowed, allowed as isAllowed, firstOutside, optionsRefusal};
+ghost use Rattle.options.specs.Table.{count_size, option_size, option_count, option_at, options_of};
+ghost use Rattle.options.specs.Refusals.{length_refused, sort_allowed, size_allowed, allowed as isAllowed, first_outside, options_refusal};
 ghost use Rattle.options.specs.Inner.Reading.{Whole};
 
 use crate::OptionRow;
@@ -21,16 +21,16 @@ const WHOLE_DELTA: u16 = 10_000;
 
 // How many rows the table says that it has.
 pub fn option_count(table: &[u8]) -> usize
-    requires { countSize ≤ length table.now }
-    ensures { result ≡ optionCount table.now }
+    requires { count_size ≤ length table.now }
+    ensures { result ≡ option_count table.now }
 {
     fields::u16_at(table, 0) as usize
 }
 
 // The row of a number.
 pub fn option_at(table: &[u8], row: usize) -> OptionRow
-    requires { countSize + optionSize * row + optionSize ≤ length table.now }
-    ensures { result ≡ optionAt table.now row }
+    requires { count_size + option_size * row + option_size ≤ length table.now }
+    ensures { result ≡ option_at table.now row }
 {
     let at = COUNT_SIZE + OPTION_SIZE * row;
     OptionRow {
@@ -48,7 +48,7 @@ pub fn option_at(table: &[u8], row: usize) -> OptionRow
 }
 
 fn sort_allowed(option: OptionRow) -> bool
-    ensures { result ≡ sortAllowed option }
+    ensures { result ≡ sort_allowed option }
 {
     let class = option.class as usize;
     if class < 2 {
@@ -70,7 +70,7 @@ fn sort_allowed(option: OptionRow) -> bool
 }
 
 fn size_allowed(option: OptionRow) -> bool
-    ensures { result ≡ sizeAllowed option }
+    ensures { result ≡ size_allowed option }
 {
     if option.amount < 1 {
         return false;
@@ -94,7 +94,7 @@ fn allowed(option: OptionRow) -> bool
 // 17 at the first row with a field out of its range.
 fn first_outside(table: &[u8], many: usize) -> Refusal
     requires { Whole table.now many }
-    ensures { result ≡ firstOutside 0 (optionsOf table.now) }
+    ensures { result ≡ first_outside 0 (options_of table.now) }
 {
     let mut row: usize = 0;
     while row < many {
@@ -107,7 +107,7 @@ fn first_outside(table: &[u8], many: usize) -> Refusal
 }
 
 fn length_refused(table: &[u8]) -> bool
-    ensures { result ≡ lengthRefused table.now }
+    ensures { result ≡ length_refused table.now }
 {
     if table.len() < COUNT_SIZE {
         return true;
@@ -121,7 +121,7 @@ fn length_refused(table: &[u8]) -> bool
 
 // 16, then 17; all zero where the table is taken.
 pub fn refusal(table: &[u8]) -> Refusal
-    ensures { result ≡ optionsRefusal table.now }
+    ensures { result ≡ options_refusal table.now }
 {
     if length_refused(table) {
         return book::refused(16, 0);

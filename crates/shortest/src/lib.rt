@@ -2,8 +2,8 @@
 mod places;
 
 ghost use Rattle.std.specs.Prelude.{◌≡◌, ◌≤◌, ◌<◌, length as len};
-ghost use Rattle.book.specs.Refusals.{refusalOf};
-ghost use Rattle.shortest.specs.Shortest.{shortestOf, shortestOutput};
+ghost use Rattle.book.specs.Refusals.{refusal_of};
+ghost use Rattle.shortest.specs.Shortest.{shortest_of, shortest_output};
 ghost use Rattle.shortest.specs.Inner.Places.{answer_of};
 
 use book::{CONTENTS_SIZE, ROW_SIZE, Refusal};
@@ -20,7 +20,7 @@ pub struct Shown {
 // Writes the shortest file that is refused with the book's number at the start of out; bytes past it keep their values, and all do where the
 // call is refused.
 pub fn shortest(book: &[u8], out: &mut [u8]) -> Shown
-    ensures { (result ≡ shortestOf book.now (len out.old)) × (out.new ≡ shortestOutput book.now out.old) }
+    ensures { (result ≡ shortest_of book.now (len out.old)) × (out.new ≡ shortest_output book.now out.old) }
 {
     let found = book::check(book);
     if found.number < 2 {
@@ -34,8 +34,8 @@ pub fn shortest(book: &[u8], out: &mut [u8]) -> Shown
 
 // Of a book refused with 2 or 3.
 fn show_contents(book: &[u8], out: &mut [u8]) -> Shown
-    requires { (2 ≤ (refusalOf book.now).number) × ((refusalOf book.now).number < 4) }
-    ensures { (result ≡ shortestOf book.now (len out.old)) × (out.new ≡ shortestOutput book.now out.old) }
+    requires { (2 ≤ (refusal_of book.now).number) × ((refusal_of book.now).number < 4) }
+    ensures { (result ≡ shortest_of book.now (len out.old)) × (out.new ≡ shortest_output book.now out.old) }
 {
     if out.len() < CONTENTS_SIZE {
         return answer(12, 0, false);
@@ -47,8 +47,8 @@ fn show_contents(book: &[u8], out: &mut [u8]) -> Shown
 
 // Of a book refused for one of its rows.
 fn show_row(book: &[u8], row: usize, out: &mut [u8]) -> Shown
-    requires { (4 ≤ (refusalOf book.now).number) × (row ≡ (refusalOf book.now).row) }
-    ensures { (result ≡ shortestOf book.now (len out.old)) × (out.new ≡ shortestOutput book.now out.old) }
+    requires { (4 ≤ (refusal_of book.now).number) × (row ≡ (refusal_of book.now).row) }
+    ensures { (result ≡ shortest_of book.now (len out.old)) × (out.new ≡ shortest_output book.now out.old) }
 {
     if out.len() < CONTENTS_SIZE + ROW_SIZE {
         return answer(12, 0, false);

@@ -24,9 +24,9 @@ cond_same true a = refl
 cond_same false a = refl
 
 -- the same first thing: what follows matters only where the test does not hold
-pub cond-else : {A : Type 0} (test : Bool) (a b c : A) → (test ≡ false → b ≡ c) → cond test a b ≡ cond test a c
-cond-else true a b c h = refl
-cond-else false a b c h = h refl
+pub cond_else : {A : Type 0} (test : Bool) (a b c : A) → (test ≡ false → b ≡ c) → cond test a b ≡ cond test a c
+cond_else true a b c h = refl
+cond_else false a b c h = h refl
 
 -- ---- a choice between two numbers
 -- a test that would have given a number above 0 did not hold
@@ -39,9 +39,9 @@ pub either : {bound : ℕ} (test : Bool) (a b : ℕ) → a ≤ bound → b ≤ b
 either true a b h k = h
 either false a b h k = k
 
-pub cond-add : (test : Bool) (a b c d : ℕ) → cond test a b + cond test c d ≡ cond test (a + c) (b + d)
-cond-add true a b c d = refl
-cond-add false a b c d = refl
+pub cond_add : (test : Bool) (a b c d : ℕ) → cond test a b + cond test c d ≡ cond test (a + c) (b + d)
+cond_add true a b c d = refl
+cond_add false a b c d = refl
 
 -- ---- a number that counts where a test passes
 -- a test as a machine's number
@@ -49,22 +49,22 @@ pub as_number : (test : Bool) → bool_byte test ≡ cond test 1 0
 as_number true = refl
 as_number false = refl
 
-pub counted-where : (test : Bool) (n : ℕ) → T test → cond test n 0 ≡ n
-counted-where true n passes = refl
-counted-where false n passes = absurd passes
+pub counted_where : (test : Bool) (n : ℕ) → T test → cond test n 0 ≡ n
+counted_where true n passes = refl
+counted_where false n passes = absurd passes
 
-pub counted-elsewhere : (test : Bool) (n : ℕ) → ¬ T test → cond test n 0 ≡ 0
-counted-elsewhere true n fails = absurd (fails tt)
-counted-elsewhere false n fails = refl
+pub counted_elsewhere : (test : Bool) (n : ℕ) → ¬ T test → cond test n 0 ≡ 0
+counted_elsewhere true n fails = absurd (fails tt)
+counted_elsewhere false n fails = refl
 
 pub counted≤ : (test : Bool) (n : ℕ) → cond test n 0 ≤ n
 counted≤ true n = omega arith
 counted≤ false n = omega arith
 
-pub counted-times : (test : Bool) (w n : ℕ) → cond test (w * n) 0 ≡ w * cond test n 0
-counted-times true w n = refl
-counted-times false w n = omega (arith, mul-zero w)
+pub counted_times : (test : Bool) (w n : ℕ) → cond test (w * n) 0 ≡ w * cond test n 0
+counted_times true w n = refl
+counted_times false w n = omega (arith, mul-zero w)
 
-pub counted-test : (test : Bool) (n : ℕ) → 0 < cond test n 0 → (test ≡ true) × (0 < n)
-counted-test true n h = (refl, h)
-counted-test false n h = let never : ⊥ = omega arith in absurd never
+pub counted_test : (test : Bool) (n : ℕ) → 0 < cond test n 0 → (test ≡ true) × (0 < n)
+counted_test true n h = (refl, h)
+counted_test false n h = let never : ⊥ = omega arith in absurd never

@@ -12,22 +12,22 @@ use lib.ListN.{length, get_or, get_or-eq_default}
 use borrow.Author.Tests.{leb-true, le-leb, eqb-true, eq-eqb}
 use Rattle.sums.specs.Sums.{span}
 use Rattle.sums.proofs.Cases.{both, untaken}
-use Rattle.sums.proofs.Filling.{listed_at, listed-length}
-use Rattle.book.specs.Fields.{u16At}
+use Rattle.sums.proofs.Filling.{listed_at, listed_length}
+use Rattle.book.specs.Fields.{u16_at}
 use Rattle.ladder.specs.declared.Percents.{Percents}
-use Rattle.ladder.specs.Table.{AcceptedPercents, mostWeight, weightIn}
+use Rattle.ladder.specs.Table.{AcceptedPercents, most_weight, weight_in}
 use Rattle.ladder.specs.Inner.Steps.{TableBounds}
-use Rattle.table.specs.Loaded.{tableBands, weightAt, percentsOf, table_of, weightsHold, percentsHold, tableRefusal, AcceptedTable, standardBytes}
-use Rattle.table.specs.Inner.Loading.{Loaded, loadedOf}
+use Rattle.table.specs.Loaded.{table_bands, weight_at, percents_of, table_of, weights_hold, percents_hold, table_refusal, AcceptedTable, standard_bytes}
+use Rattle.table.specs.Inner.Loading.{Loaded, loaded_of}
 
 -- ---- weights, one after the other
 record Weighed (least : ℕ) (list : List ℕ) : Type 0 where
   from : 0 < length list → least ≤ get_or list 0 0
   rising : (k : ℕ) → suc k < length list → get_or list k 0 ≤ get_or list (suc k) 0
-  within : (k : ℕ) → k < length list → get_or list k 0 ≤ mostWeight
+  within : (k : ℕ) → k < length list → get_or list k 0 ≤ most_weight
 
-weighed : (least : ℕ) (list : List ℕ) → weightsHold least list ≡ true → Weighed least list
-unfolding weightsHold
+weighed : (least : ℕ) (list : List ℕ) → weights_hold least list ≡ true → Weighed least list
+unfolding weights_hold
 weighed least [] e = record { from = λ h. omega arith; rising = λ k h. omega arith; within = λ k h. omega arith }
 weighed least (weight ∷ list) e =
     let parts = both _ _ e in
@@ -39,12 +39,12 @@ weighed least (weight ∷ list) e =
     rises later zero h = later.from (omega arith)
     rises later (suc k) h = later.rising k (omega arith)
 
-    stays : Weighed weight list → weight ≤ mostWeight → (k : ℕ) → k < suc (length list) → get_or (weight ∷ list) k 0 ≤ mostWeight
+    stays : Weighed weight list → weight ≤ most_weight → (k : ℕ) → k < suc (length list) → get_or (weight ∷ list) k 0 ≤ most_weight
     stays later first zero h = first
     stays later first (suc k) h = later.within k (omega arith)
 
-holds : (least : ℕ) (list : List ℕ) → Weighed least list → weightsHold least list ≡ true
-unfolding weightsHold
+holds : (least : ℕ) (list : List ℕ) → Weighed least list → weights_hold least list ≡ true
+unfolding weights_hold
 holds least [] all = refl
 holds least (weight ∷ list) all =
     let later : Weighed weight list =
@@ -53,11 +53,11 @@ holds least (weight ∷ list) all =
       rising = λ k h. all.rising (suc k) (omega arith);
       within = λ k h. all.within (suc k) (omega arith);
     } in
-    simp (le-leb least weight (all.from (omega arith)), le-leb weight mostWeight (all.within 0 (omega arith)), holds weight list later)
+    simp (le-leb least weight (all.from (omega arith)), le-leb weight most_weight (all.within 0 (omega arith)), holds weight list later)
 
 -- ---- the per cents
-ordered : (p : Percents) → percentsHold p ≡ true → AcceptedPercents p
-unfolding percentsHold
+ordered : (p : Percents) → percents_hold p ≡ true → AcceptedPercents p
+unfolding percents_hold
 ordered p e =
     let parts = both _ _ e in
     let zones = both _ _ parts.0 in
@@ -77,8 +77,8 @@ ordered p e =
       within = leb-true _ _ apart.1;
     }
 
-in_order : (p : Percents) → AcceptedPercents p → percentsHold p ≡ true
-unfolding percentsHold
+in_order : (p : Percents) → AcceptedPercents p → percents_hold p ≡ true
+unfolding percents_hold
 in_order p ok =
     simp (
       le-leb _ _ ok.vertical≤1,
@@ -97,84 +97,84 @@ is_true true e = refl
 is_true false e = absurd (true≢false e)
 
 module _ (bytes : List ℕ) where
-  pub described : tableRefusal bytes ≡ 0 → AcceptedTable bytes
-  unfolding tableRefusal table_of
+  pub described : table_refusal bytes ≡ 0 → AcceptedTable bytes
+  unfolding table_refusal table_of
   described e =
       let sized = untaken _ 17 _ e in
       let held = both _ _ (is_true _ (untaken _ 18 0 sized.1).0) in
       let all = weighed 0 _ held.0 in
-      let many = listed-length (weightAt bytes) 0 tableBands in
+      let many = listed_length (weight_at bytes) 0 table_bands in
       record {
         sized = eqb-true _ _ (is_true _ sized.0);
-        never-fall = λ band h.
-            rw (← listed_at (weightAt bytes) tableBands band (omega arith), ← listed_at (weightAt bytes) tableBands (band + 1) h, add-one band) (all.rising band (omega (arith, many)));
-        within = λ band h. rw (← listed_at (weightAt bytes) tableBands band h) (all.within band (omega (arith, many)));
-        percents = ordered (percentsOf bytes) held.1;
+        never_fall = λ band h.
+            rw (← listed_at (weight_at bytes) table_bands band (omega arith), ← listed_at (weight_at bytes) table_bands (band + 1) h, add-one band) (all.rising band (omega (arith, many)));
+        within = λ band h. rw (← listed_at (weight_at bytes) table_bands band h) (all.within band (omega (arith, many)));
+        percents = ordered (percents_of bytes) held.1;
       }
 
-  pub taken : AcceptedTable bytes → tableRefusal bytes ≡ 0
-  unfolding tableRefusal table_of
+  pub taken : AcceptedTable bytes → table_refusal bytes ≡ 0
+  unfolding table_refusal table_of
   taken ok =
-      let many = listed-length (weightAt bytes) 0 tableBands in
-      let all : Weighed 0 (map (weightAt bytes) (span 0 tableBands)) =
+      let many = listed_length (weight_at bytes) 0 table_bands in
+      let all : Weighed 0 (map (weight_at bytes) (span 0 table_bands)) =
       record {
         from = λ h. omega arith;
         rising = λ k h. rises k (omega (arith, many));
-        within = λ k h. rw (listed_at (weightAt bytes) tableBands k (omega (arith, many))) (ok.within k (omega (arith, many)));
+        within = λ k h. rw (listed_at (weight_at bytes) table_bands k (omega (arith, many))) (ok.within k (omega (arith, many)));
       } in
-      simp (eq-eqb _ _ ok.sized, holds 0 _ all, in_order (percentsOf bytes) ok.percents)
+      simp (eq-eqb _ _ ok.sized, holds 0 _ all, in_order (percents_of bytes) ok.percents)
     where
-      rises : (k : ℕ) → suc k < tableBands → get_or (map (weightAt bytes) (span 0 tableBands)) k 0 ≤ get_or (map (weightAt bytes) (span 0 tableBands)) (suc k) 0
+      rises : (k : ℕ) → suc k < table_bands → get_or (map (weight_at bytes) (span 0 table_bands)) k 0 ≤ get_or (map (weight_at bytes) (span 0 table_bands)) (suc k) 0
       rises k h =
-          rw (listed_at (weightAt bytes) tableBands k (omega arith), listed_at (weightAt bytes) tableBands (suc k) h, ← add-one k) (ok.never-fall k (omega arith))
+          rw (listed_at (weight_at bytes) table_bands k (omega arith), listed_at (weight_at bytes) table_bands (suc k) h, ← add-one k) (ok.never_fall k (omega arith))
 
   -- a bound of the bands' weights; another number has no weight
-  weights-within : (most : ℕ) → ((band : ℕ) → band < tableBands → weightAt bytes band ≤ most) → (band : ℕ) → weightIn (table_of bytes) band ≤ most
-  unfolding weightIn table_of
-  weights-within most each band = go (dec_lt band tableBands)
+  weights_within : (most : ℕ) → ((band : ℕ) → band < table_bands → weight_at bytes band ≤ most) → (band : ℕ) → weight_in (table_of bytes) band ≤ most
+  unfolding weight_in table_of
+  weights_within most each band = go (dec_lt band table_bands)
     where
-      go : Dec (band < tableBands) → get_or (map (weightAt bytes) (span 0 tableBands)) band 0 ≤ most
-      go (yes h) = rw (listed_at (weightAt bytes) tableBands band h) (each band h)
-      go (no h) = rw (get_or-eq_default (map (weightAt bytes) (span 0 tableBands)) 0 {n = band} (rw (listed-length (weightAt bytes) 0 tableBands) (omega arith))) (omega arith)
+      go : Dec (band < table_bands) → get_or (map (weight_at bytes) (span 0 table_bands)) band 0 ≤ most
+      go (yes h) = rw (listed_at (weight_at bytes) table_bands band h) (each band h)
+      go (no h) = rw (get_or-eq_default (map (weight_at bytes) (span 0 table_bands)) 0 {n = band} (rw (listed_length (weight_at bytes) 0 table_bands) (omega arith))) (omega arith)
 
   -- so the laws of the ladder hold for it
-  pub accepted-table : AcceptedTable bytes → TableBounds (table_of bytes)
+  pub accepted_table : AcceptedTable bytes → TableBounds (table_of bytes)
   unfolding table_of
-  accepted-table ok = record { weights = weights-within mostWeight ok.within; percents = ok.percents }
+  accepted_table ok = record { weights = weights_within most_weight ok.within; percents = ok.percents }
 
   -- and no weight is above the last
-  last-most : AcceptedTable bytes → (band : ℕ) → weightIn (table_of bytes) band ≤ weightAt bytes 14
-  last-most ok =
-      weights-within (weightAt bytes 14) (λ band h.
-      le_ind (λ (k : ℕ). k < tableBands → weightAt bytes band ≤ weightAt bytes k) (λ below. le_refl _)
-      (λ k from so_far below. omega (arith, so_far (omega arith), rw add-one at (ok.never-fall k (omega arith)))) 14 (omega arith) (omega arith))
+  last_most : AcceptedTable bytes → (band : ℕ) → weight_in (table_of bytes) band ≤ weight_at bytes 14
+  last_most ok =
+      weights_within (weight_at bytes 14) (λ band h.
+      le_ind (λ (k : ℕ). k < table_bands → weight_at bytes band ≤ weight_at bytes k) (λ below. le_refl _)
+      (λ k from so_far below. omega (arith, so_far (omega arith), rw add-one at (ok.never_fall k (omega arith)))) 14 (omega arith) (omega arith))
 
 -- ---- what was loaded
-module _ (bytes : List ℕ) (loaded : Loaded) (is : loaded ≡ loadedOf bytes) where
-  pub loaded-number : loaded.number ≡ tableRefusal bytes
-  unfolding loadedOf
-  loaded-number = ap (λ (l : Loaded). l.number) is
+module _ (bytes : List ℕ) (loaded : Loaded) (is : loaded ≡ loaded_of bytes) where
+  pub loaded_number : loaded.number ≡ table_refusal bytes
+  unfolding loaded_of
+  loaded_number = ap (λ (l : Loaded). l.number) is
 
   module _ (good : loaded.number ≡ 0) where
-    pub not-refused : tableRefusal bytes ≡ 0
-    not-refused = sym loaded-number ∙ good
+    pub not_refused : table_refusal bytes ≡ 0
+    not_refused = sym loaded_number ∙ good
 
-    pub loaded-table : loaded.table ≡ table_of bytes
-    unfolding loadedOf
-    loaded-table = ap (λ (l : Loaded). l.table) is ∙ simp (eq-eqb _ _ (described bytes not-refused).sized)
+    pub loaded_table : loaded.table ≡ table_of bytes
+    unfolding loaded_of
+    loaded_table = ap (λ (l : Loaded). l.table) is ∙ simp (eq-eqb _ _ (described bytes not_refused).sized)
 
-    pub loaded-accepted : TableBounds loaded.table
-    loaded-accepted = rw loaded-table (accepted-table bytes (described bytes not-refused))
+    pub loaded_accepted : TableBounds loaded.table
+    loaded_accepted = rw loaded_table (accepted_table bytes (described bytes not_refused))
 
 -- ---- document 01's table is one of them
-pub standard-accepted : tableRefusal standardBytes ≡ 0
-unfolding tableRefusal table_of weightAt percentsOf weightsHold percentsHold span u16At
-standard-accepted = refl
+pub standard_accepted : table_refusal standard_bytes ≡ 0
+unfolding table_refusal table_of weight_at percents_of weights_hold percents_hold span u16_at
+standard_accepted = refl
 
-pub standard-bounds : TableBounds (table_of standardBytes)
-standard-bounds = accepted-table standardBytes (described standardBytes standard-accepted)
+pub standard_bounds : TableBounds (table_of standard_bytes)
+standard_bounds = accepted_table standard_bytes (described standard_bytes standard_accepted)
 
 -- its last weight is 1,250
-pub standard-most : (band : ℕ) → weightIn (table_of standardBytes) band ≤ 1250
-unfolding weightAt u16At
-standard-most = last-most standardBytes (described standardBytes standard-accepted)
+pub standard_most : (band : ℕ) → weight_in (table_of standard_bytes) band ≤ 1250
+unfolding weight_at u16_at
+standard_most = last_most standard_bytes (described standard_bytes standard_accepted)

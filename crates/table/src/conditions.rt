@@ -1,6 +1,6 @@
 // The conditions of a table.
 ghost use Rattle.std.specs.Prelude.{◌≡◌, ◌&&◌};
-ghost use Rattle.table.specs.Loaded.{weightsHold, percentsHold};
+ghost use Rattle.table.specs.Loaded.{weights_hold, percents_hold};
 
 use ladder::{BANDS, Percents};
 
@@ -10,7 +10,7 @@ const MOST_PERCENT: u64 = 100;
 
 // Whether the weights never fall and are at most 2,000.
 pub fn weights_hold(weights: [u64; BANDS]) -> bool
-    ensures { result ≡ weightsHold 0 weights }
+    ensures { result ≡ weights_hold 0 weights }
 {
     let mut least: u64 = 0;
     let mut band: usize = 0;
@@ -37,7 +37,7 @@ pub fn both(one: bool, two: bool) -> bool
 
 // Whether the per cents keep their order, and none is above 100.
 pub fn percents_hold(p: Percents) -> bool
-    ensures { result ≡ percentsHold p }
+    ensures { result ≡ percents_hold p }
 {
     let zones = both(
         p.vertical <= p.zone1,

@@ -1,14 +1,14 @@
 // What the bytes of a table hold.
 ghost use Rattle.std.specs.Prelude.{◌≡◌, map, ◌≤◌, length};
 ghost use Rattle.sums.specs.Sums.{span};
-ghost use Rattle.table.specs.Loaded.{tableSize, tableBands, weightAt, percentsOf, table_of};
-ghost use Rattle.table.specs.Inner.Loading.{noTable};
+ghost use Rattle.table.specs.Loaded.{table_size, table_bands, weight_at, percents_of, table_of};
+ghost use Rattle.table.specs.Inner.Loading.{no_table};
 
 use ladder::{BANDS, Percents, Table};
 
 // No table.
 pub fn none() -> Table
-    ensures { result ≡ noTable }
+    ensures { result ≡ no_table }
 {
     let percents = Percents {
         vertical: 0,
@@ -26,7 +26,7 @@ pub fn none() -> Table
 
 // The table.
 pub fn read_table(bytes: &[u8]) -> Table
-    requires { tableSize ≤ length bytes.now }
+    requires { table_size ≤ length bytes.now }
     ensures { result ≡ table_of bytes.now }
 {
     Table {
@@ -37,8 +37,8 @@ pub fn read_table(bytes: &[u8]) -> Table
 
 // The weights of the bands.
 fn read_weights(bytes: &[u8]) -> [u64; BANDS]
-    requires { tableSize ≤ length bytes.now }
-    ensures { result ≡ map (weightAt bytes.now) (span 0 tableBands) }
+    requires { table_size ≤ length bytes.now }
+    ensures { result ≡ map (weight_at bytes.now) (span 0 table_bands) }
 {
     let mut weights = [0u64; BANDS];
     let mut band: usize = 0;
@@ -57,8 +57,8 @@ fn wide(byte: u8) -> u64
 
 // The per cents of the steps.
 fn read_percents(bytes: &[u8]) -> Percents
-    requires { tableSize ≤ length bytes.now }
-    ensures { result ≡ percentsOf bytes.now }
+    requires { table_size ≤ length bytes.now }
+    ensures { result ≡ percents_of bytes.now }
 {
     Percents {
         vertical: wide(bytes[30]),

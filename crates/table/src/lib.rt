@@ -3,8 +3,8 @@ mod conditions;
 mod fields;
 
 ghost use Rattle.std.specs.Prelude.{◌≡◌};
-ghost use Rattle.table.specs.Loaded.{standardBytes};
-ghost use Rattle.table.specs.Inner.Loading.{loadedOf};
+ghost use Rattle.table.specs.Loaded.{standard_bytes};
+ghost use Rattle.table.specs.Inner.Loading.{loaded_of};
 
 use ladder::Table;
 
@@ -18,7 +18,7 @@ const STANDARD: [u8; SIZE] = [
 
 // Document 01's table.
 pub fn standard() -> [u8; SIZE]
-    ensures { result ≡ standardBytes }
+    ensures { result ≡ standard_bytes }
 {
     STANDARD
 }
@@ -32,7 +32,7 @@ pub struct Loaded {
 
 // Reads a table: 18 where it has not 36 bytes, 19 where a condition is broken.
 pub fn load(bytes: &[u8]) -> Loaded
-    ensures { result ≡ loadedOf bytes.now }
+    ensures { result ≡ loaded_of bytes.now }
 {
     if bytes.len() != SIZE {
         return Loaded {

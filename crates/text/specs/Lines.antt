@@ -18,10 +18,10 @@ unfoldable pub line : List ℕ → ℕ → List ℕ
 line name n = name ++ (ascii " " ++ (decimal n ++ ascii "\n"))
 
 -- the lines of the six charges and the total (document 01, The program)
-unfoldable pub chargesText : Report → List ℕ
-chargesText report =
-    line (ascii "interest-specific") report.interest.specific
-    ++ (line (ascii "interest-general") report.interest.general
+unfoldable pub charges_text : Report → List ℕ
+charges_text report =
+    line (ascii "interest_specific") report.interest.specific
+    ++ (line (ascii "interest_general_lem") report.interest.general
     ++ (line (ascii "equity-specific") report.equity.specific
     ++ (line (ascii "equity-general") report.equity.general
     ++ (line (ascii "fx") report.exchange
@@ -29,9 +29,9 @@ chargesText report =
     ++ line (ascii "total") report.total)))))
 
 -- the line of a refusal: its number and its row (document 01, The program)
-unfoldable pub refusalText : Refusal → List ℕ
-refusalText refusal = ascii "refused " ++ (decimal refusal.number ++ line (ascii " row") refusal.row)
+unfoldable pub refusal_text : Refusal → List ℕ
+refusal_text refusal = ascii "refused " ++ (decimal refusal.number ++ line (ascii " row") refusal.row)
 
 -- the whole text (document 01, The program)
-unfoldable pub reportText : Report → List ℕ
-reportText report = cond (eqb report.refusal.number 0) (chargesText report) (refusalText report.refusal)
+unfoldable pub report_text : Report → List ℕ
+report_text report = cond (eqb report.refusal.number 0) (charges_text report) (refusal_text report.refusal)

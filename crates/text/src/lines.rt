@@ -1,7 +1,7 @@
 // Words, numbers and lines written one after the other: each gives the place after it.
 ghost use Rattle.std.specs.Prelude.{◌+◌, ◌≤◌, length};
 ghost use Rattle.text.specs.Lines.{decimal, line};
-ghost use Rattle.text.specs.Inner.Pieces.{Wrote, lineMost};
+ghost use Rattle.text.specs.Inner.Pieces.{Wrote, line_most};
 
 // Bytes as they are.
 pub fn write_bytes(bytes: &[u8], out: &mut [u8], at: usize) -> usize
@@ -28,8 +28,8 @@ pub fn write_decimal(n: u64, out: &mut [u8], at: usize) -> usize
 
 // A line: name, space, number, line end.
 pub fn write_line(name: &[u8], n: u64, out: &mut [u8], at: usize) -> usize
-    requires { at + lineMost name.now ≤ length out.old }
-    ensures { Wrote out.old at (line name.now n) result out.new × (result ≤ at + lineMost name.now) }
+    requires { at + line_most name.now ≤ length out.old }
+    ensures { Wrote out.old at (line name.now n) result out.new × (result ≤ at + line_most name.now) }
 {
     let word = write_bytes(name, out, at);
     let space = write_bytes(b" ", out, word);

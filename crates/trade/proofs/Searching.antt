@@ -9,7 +9,7 @@ use native.Mathlib.Numerals.{lt_of_le_of_ne}
 use native.Mathlib.Omega.{arith}
 use borrow.Author.Tests.{leb-true, leb-false, le-leb, lt-leb}
 use lib.Dec.{leb}
-use Rattle.trade.specs.Trade.{Least, none, mostTrade, leastFrom, leastWithin}
+use Rattle.trade.specs.Trade.{Least, none, most_trade, least_from, least_within}
 
 abbrev at : ℕ → Least
 at amount = record { found = true; amount = amount }
@@ -17,8 +17,8 @@ at amount = record { found = true; amount = amount }
 module _ (charge : ℕ → ℕ) (limit : ℕ) where
   -- amounts over the limit are passed over
   passed : (amount more many : ℕ) → ((j : ℕ) → j < more → limit < charge (amount + j))
-      → leastFrom charge limit amount many ≡ leastFrom charge limit (amount + more) (many - more)
-  unfolding leastFrom
+      → least_from charge limit amount many ≡ least_from charge limit (amount + more) (many - more)
+  unfolding least_from
   passed amount zero many over =
       let start : amount + 0 ≡ amount = omega arith in
       let all : many - 0 ≡ many = omega arith in
@@ -33,16 +33,16 @@ module _ (charge : ℕ → ℕ) (limit : ℕ) where
 
   -- ---- the search
   -- an amount within the limit, of which no smaller one is
-  pub found_at : (amount : ℕ) → amount ≤ mostTrade → charge amount ≤ limit → ((j : ℕ) → j < amount → limit < charge j) → leastWithin charge limit ≡ at amount
-  unfolding leastWithin leastFrom
+  pub found_at : (amount : ℕ) → amount ≤ most_trade → charge amount ≤ limit → ((j : ℕ) → j < amount → limit < charge j) → least_within charge limit ≡ at amount
+  unfolding least_within least_from
   found_at amount inside within over =
-      let more : mostTrade + 1 - amount ≡ suc (mostTrade - amount) = omega arith in
-      passed 0 amount (mostTrade + 1) (λ j h. rw (zero-add j) (over j h)) ∙ rw (zero-add amount, more, le-leb _ _ within)
+      let more : most_trade + 1 - amount ≡ suc (most_trade - amount) = omega arith in
+      passed 0 amount (most_trade + 1) (λ j h. rw (zero-add j) (over j h)) ∙ rw (zero-add amount, more, le-leb _ _ within)
 
   -- no amount within the limit
-  pub none-at : ((j : ℕ) → j ≤ mostTrade → limit < charge j) → leastWithin charge limit ≡ none
-  unfolding leastWithin leastFrom
-  none-at over = passed 0 (mostTrade + 1) (mostTrade + 1) (λ j h. rw (zero-add j) (over j (omega arith)))
+  pub none_at : ((j : ℕ) → j ≤ most_trade → limit < charge j) → least_within charge limit ≡ none
+  unfolding least_within least_from
+  none_at over = passed 0 (most_trade + 1) (most_trade + 1) (λ j h. rw (zero-add j) (over j (omega arith)))
 
   -- ---- what is found
   -- an amount within the limit, and every smaller one over it; or every amount over it
@@ -51,7 +51,7 @@ module _ (charge : ℕ → ℕ) (limit : ℕ) where
     pub high : r.found ≡ true → r.amount < amount + many
     pub within : r.found ≡ true → charge r.amount ≤ limit
     pub over : r.found ≡ true → (j : ℕ) → amount ≤ j → j < r.amount → limit < charge j
-    pub over-all : r.found ≡ false → (j : ℕ) → amount ≤ j → j < amount + many → limit < charge j
+    pub over_all : r.found ≡ false → (j : ℕ) → amount ≤ j → j < amount + many → limit < charge j
 
   -- an amount that is over, and what is found after it
   found_after : (amount many : ℕ) (r : Least) → limit < charge amount → FoundFrom (suc amount) many r → FoundFrom amount (suc many) r
@@ -61,7 +61,7 @@ module _ (charge : ℕ → ℕ) (limit : ℕ) where
         high = λ e. omega (arith, later.high e);
         within = later.within;
         over = λ e j h k. from j h (λ past. later.over e j past k);
-        over-all = λ e j h k. from j h (λ past. later.over-all e j past (omega arith));
+        over_all = λ e j h k. from j h (λ past. later.over_all e j past (omega arith));
       }
     where
       from : (j : ℕ) → amount ≤ j → (suc amount ≤ j → limit < charge j) → limit < charge j
@@ -71,26 +71,26 @@ module _ (charge : ℕ → ℕ) (limit : ℕ) where
           go (yes own) = subst (λ (k : ℕ). limit < charge k) own here
           go (no other) = past (lt_of_le_of_ne h other)
 
-  pub found_from : (amount many : ℕ) → FoundFrom amount many (leastFrom charge limit amount many)
-  unfolding leastFrom
+  pub found_from : (amount many : ℕ) → FoundFrom amount many (least_from charge limit amount many)
+  unfolding least_from
   found_from amount zero =
       record {
         low = λ e. absurd (false≢true e);
         high = λ e. absurd (false≢true e);
         within = λ e. absurd (false≢true e);
         over = λ e. absurd (false≢true e);
-        over-all = λ _ j h k. omega arith;
+        over_all = λ _ j h k. omega arith;
       }
   found_from amount (suc many) = go (found_from (suc amount) many) (leb (charge amount) limit) refl
     where
-      go : FoundFrom (suc amount) many (leastFrom charge limit (suc amount) many) → (test : Bool) → leb (charge amount) limit ≡ test
-          → FoundFrom amount (suc many) (cond test (at amount) (leastFrom charge limit (suc amount) many))
+      go : FoundFrom (suc amount) many (least_from charge limit (suc amount) many) → (test : Bool) → leb (charge amount) limit ≡ test
+          → FoundFrom amount (suc many) (cond test (at amount) (least_from charge limit (suc amount) many))
       go later true t =
           record {
             low = λ _. omega arith;
             high = λ _. omega arith;
             within = λ _. leb-true _ _ t;
             over = λ _ j h k. omega arith;
-            over-all = λ e. absurd (true≢false e);
+            over_all = λ e. absurd (true≢false e);
           }
       go later false t = found_after amount many _ (leb-false _ _ t) later

@@ -2,7 +2,7 @@
 mod search;
 
 ghost use Rattle.std.specs.Prelude.{◌≡◌};
-ghost use Rattle.trade.specs.Trade.{none as noAmount, placeRefusal, leastTradeOf};
+ghost use Rattle.trade.specs.Trade.{none as noAmount, place_refusal, least_trade_of};
 ghost use Rattle.trade.specs.Inner.Searching.{first_of};
 
 use book::Refusal;
@@ -35,7 +35,7 @@ fn none() -> Least
 
 // 21 for a band or a side that there is not, else 0.
 fn place_refusal(band: usize, side: usize) -> u8
-    ensures { result ≡ placeRefusal band side }
+    ensures { result ≡ place_refusal band side }
 {
     if LAST_BAND < band {
         return 21;
@@ -60,7 +60,7 @@ pub fn least_trade(
     side: usize,
     limit: u64,
 ) -> Trade
-    ensures { result ≡ leastTradeOf table.now book.now group band side limit }
+    ensures { result ≡ least_trade_of table.now book.now group band side limit }
 {
     let loaded = table::load(table);
     let wrong = first_of(loaded.number, place_refusal(band, side));

@@ -2,8 +2,8 @@
 ghost use Rattle.std.specs.Prelude.{◌≡◌, true, ◌+◌, ◌-◌, ◌<◌, ◌≤◌};
 ghost use Rattle.ladder.specs.Position.{◌⊕◌, gross};
 ghost use Rattle.ladder.specs.Inner.Steps.{limit as most};
-ghost use Rattle.trade.specs.Trade.{onSide, mostTrade, leastWithin};
-ghost use Rattle.trade.specs.Inner.Searching.{openCharge, excessIn, Searchable, TurnOf, CanOpen, OpenOf};
+ghost use Rattle.trade.specs.Trade.{on_side, most_trade, least_within};
+ghost use Rattle.trade.specs.Inner.Searching.{open_charge, excess_in, Searchable, TurnOf, CanOpen, OpenOf};
 
 use crate::{Least, none};
 use ladder::positions::Position;
@@ -59,7 +59,7 @@ pub fn open_band(
 // A position with an amount more on one side.
 fn with_amount(own: Position, side: usize, amount: u64) -> Position
     requires { gross own + amount ≤ most }
-    ensures { (result ≡ own ⊕ onSide side amount) × (gross result ≡ gross own + amount) }
+    ensures { (result ≡ own ⊕ on_side side amount) × (gross result ≡ gross own + amount) }
 {
     if side == 0 {
         return Position {
@@ -76,8 +76,8 @@ fn with_amount(own: Position, side: usize, amount: u64) -> Position
 impl Open {
     // The charge with an amount in the open band.
     fn charge(self, amount: u64) -> u64
-        requires { Searchable self × (amount ≤ mostTrade) }
-        ensures { result ≡ openCharge self amount }
+        requires { Searchable self × (amount ≤ most_trade) }
+        ensures { result ≡ open_charge self amount }
     {
         let own = self.own;
         let zones = self.zones;
@@ -99,7 +99,7 @@ fn less(from: u64, off: u64) -> u64
 
 // By how much the side that nothing is added to exceeds the other.
 fn excess_in(whole: Position, side: usize) -> u64
-    ensures { result ≡ excessIn side whole }
+    ensures { result ≡ excess_in side whole }
 {
     if side == 0 {
         return less(whole.short, whole.long);
@@ -138,8 +138,8 @@ fn found(amount: u64) -> Least
 // The least amount up to the turn, where 0 is over the limit and the turn within it: what lies between the two is halved, again and again.
 fn up_to(opened: Open, turn: u64, limit: u64) -> Least
     requires searchable { Searchable opened × TurnOf opened turn }
-    requires limit_bound { (limit < openCharge opened 0) × (openCharge opened turn ≤ limit) }
-    ensures { result ≡ leastWithin (openCharge opened) limit }
+    requires limit_bound { (limit < open_charge opened 0) × (open_charge opened turn ≤ limit) }
+    ensures { result ≡ least_within (open_charge opened) limit }
 {
     let mut over: u64 = 0;
     let mut within: u64 = turn;
@@ -157,8 +157,8 @@ fn up_to(opened: Open, turn: u64, limit: u64) -> Least
 // The least amount after the turn, where the turn is over the limit: the first, or none.
 fn after(opened: Open, turn: u64, limit: u64) -> Least
     requires searchable { Searchable opened × TurnOf opened turn }
-    requires limit_bound { limit < openCharge opened turn }
-    ensures { result ≡ leastWithin (openCharge opened) limit }
+    requires limit_bound { limit < open_charge opened turn }
+    ensures { result ≡ least_within (open_charge opened) limit }
 {
     if MOST_TRADE <= turn {
         return none();
@@ -172,7 +172,7 @@ fn after(opened: Open, turn: u64, limit: u64) -> Least
 // The least amount whose charge is within a limit.
 pub fn least(opened: Open, limit: u64) -> Least
     requires { Searchable opened }
-    ensures { result ≡ leastWithin (openCharge opened) limit }
+    ensures { result ≡ least_within (open_charge opened) limit }
 {
     if opened.charge(0) <= limit {
         return found(0);

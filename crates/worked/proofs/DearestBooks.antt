@@ -2,21 +2,21 @@
 -- Assumes nothing.
 use mathlib.Core.Path.{refl}
 use mathlib.Core.List.{List}
-use Rattle.layout.specs.Room.{orNext, roomRefusal, figureOf, outputOf}
-use Rattle.market_risk.specs.Entries.{costedEntries}
-use Rattle.dearest.specs.Dearest.{dearestRow, dearestBook, limitsRefusal, dearestRefusal, dearestOf, dearestOutput}
+use Rattle.layout.specs.Room.{or_next, room_refusal, figure_of, output_of}
+use Rattle.market_risk.specs.Entries.{costed_entries}
+use Rattle.dearest.specs.Dearest.{dearest_row, dearest_book, limits_refusal, dearest_refusal, dearest_of, dearest_output}
 use Rattle.worked.specs.Worked.{Hold, Worked}
-use Rattle.worked.specs.DearestFacts.{dearestFacts, cheaperFacts}
+use Rattle.worked.specs.DearestFacts.{dearest_facts, cheaper_facts}
 use Rattle.worked.proofs.WorkedBooks.{computed}
 
 unfoldable pub dearest : List Worked → List Worked
-unfolding computed costedEntries orNext roomRefusal figureOf outputOf dearestRow dearestBook limitsRefusal dearestRefusal dearestOf dearestOutput
+unfolding computed costed_entries or_next room_refusal figure_of output_of dearest_row dearest_book limits_refusal dearest_refusal dearest_of dearest_output
 dearest facts = facts
 
-pub dearest-facts : Hold dearestFacts
-unfolding dearest dearestFacts
-dearest-facts = refl
+pub dearest_facts_lem : Hold dearest_facts
+unfolding dearest dearest_facts
+dearest_facts_lem = refl
 
-pub cheaper-facts : Hold cheaperFacts
-unfolding computed cheaperFacts
-cheaper-facts = refl
+pub cheaper_facts_lem : Hold cheaper_facts
+unfolding computed cheaper_facts
+cheaper_facts_lem = refl

@@ -3,61 +3,61 @@
 use mathlib.Core.Path.{◌≡◌, refl}
 use mathlib.Core.List.{List, [], ◌∷◌}
 use Prim.Native.Nat.{ℕ}
-use Rattle.issues.specs.Issues.{has, placed, nettedFrom}
-use Rattle.issues.specs.Agreeing.{sameTerms, unlikeFirst, differs, overLimit}
-use Rattle.issues.specs.Comparing.{comparedWith, comparisonsFrom}
-use Rattle.layout.specs.Files.{bookOf}
-use Rattle.layout.specs.Room.{orNext, roomRefusal, figureOf, outputOf}
-use Rattle.netting.specs.Netted.{firstFound, foundInClass, issuesRefusal, nettedBook, comparisonsOf, nettingRefusal, nettedAnswer, nettedOf, nettingOutput}
+use Rattle.issues.specs.Issues.{has, placed, netted_from}
+use Rattle.issues.specs.Agreeing.{same_terms, unlike_first, differs, over_limit}
+use Rattle.issues.specs.Comparing.{compared_with, comparisons_from}
+use Rattle.layout.specs.Files.{book_of}
+use Rattle.layout.specs.Room.{or_next, room_refusal, figure_of, output_of}
+use Rattle.netting.specs.Netted.{first_found, found_in_class, issues_refusal, netted_book, comparisons_of, netting_refusal, netted_answer, netted_of, netting_output}
 use Rattle.worked.specs.Worked.{Hold, Worked, costs}
 use Rattle.worked.specs.WrittenBooks.{bond}
-use Rattle.worked.specs.NettingFacts.{writtenFacts, toldFacts, nearIssue, farIssue, joinedIssue, ableFacts, comparedFacts, joinedFacts}
+use Rattle.worked.specs.NettingFacts.{written_facts, told_facts, near_issue, far_issue, joined_issue, able_facts, compared_facts, joined_facts}
 use Rattle.worked.proofs.WorkedBooks.{computed}
 
 unfoldable pub netted : List Worked → List Worked
-unfolding computed has placed nettedFrom sameTerms unlikeFirst differs overLimit comparedWith comparisonsFrom comparisonsOf firstFound foundInClass orNext issuesRefusal roomRefusal figureOf outputOf nettedBook nettingRefusal nettedAnswer nettedOf nettingOutput
+unfolding computed has placed netted_from same_terms unlike_first differs over_limit compared_with comparisons_from comparisons_of first_found found_in_class or_next issues_refusal room_refusal figure_of output_of netted_book netting_refusal netted_answer netted_of netting_output
 netted facts = facts
 
-pub written-facts : Hold writtenFacts
-unfolding netted writtenFacts
+pub written-facts : Hold written_facts
+unfolding netted written_facts
 written-facts = refl
 
-pub told-facts : Hold toldFacts
-unfolding netted toldFacts
-told-facts = refl
+pub told_facts_lem : Hold told_facts
+unfolding netted told_facts
+told_facts_lem = refl
 
-pub able-facts : Hold ableFacts
-unfolding netted ableFacts
-able-facts = refl
+pub able_facts_lem : Hold able_facts
+unfolding netted able_facts
+able_facts_lem = refl
 
-pub compared-facts : Hold comparedFacts
-unfolding netted comparedFacts
-compared-facts = refl
+pub compared_facts_lem : Hold compared_facts
+unfolding netted compared_facts
+compared_facts_lem = refl
 
 -- ---- E4: each netted book first, and then what it costs
-abbrev farNear : List ℕ
-farNear = bookOf (bond 270 0 75 0 ∷ bond 6000 0 0 10 ∷ [])
+abbrev far_near : List ℕ
+far_near = book_of (bond 270 0 75 0 ∷ bond 6000 0 0 10 ∷ [])
 
-near-netted : nettedBook nearIssue ≡ nearIssue
+near-netted : netted_book near_issue ≡ near_issue
 unfolding netted
 near-netted = refl
 
-far-netted : nettedBook farIssue ≡ farIssue
+far_netted : netted_book far_issue ≡ far_issue
 unfolding netted
-far-netted = refl
+far_netted = refl
 
-join-netted : nettedBook joinedIssue ≡ farNear
+join_netted : netted_book joined_issue ≡ far_near
 unfolding netted
-join-netted = refl
+join_netted = refl
 
-abbrev booksCost : (near far join : List ℕ) → List Worked
-booksCost near far join =
+abbrev books_cost : (near far join : List ℕ) → List Worked
+books_cost near far join =
     costs near 0 210000 0 0 0 0 210000 2 ∷ costs far 0 210000 0 0 0 0 210000 2 ∷ costs join 0 525000 0 0 0 0 525000 2 ∷ []
 
-books-cost : Hold (booksCost nearIssue farIssue farNear)
+books_cost_lem : Hold (books_cost near_issue far_issue far_near)
 unfolding computed
-books-cost = refl
+books_cost_lem = refl
 
-pub joined-facts : Hold joinedFacts
-unfolding joinedFacts
-joined-facts = rw (near-netted, far-netted, join-netted) books-cost
+pub joined-facts : Hold joined_facts
+unfolding joined_facts
+joined-facts = rw (near-netted, far_netted, join_netted) books_cost_lem

@@ -2,31 +2,31 @@
 -- Assumes nothing.
 use mathlib.Core.Path.{refl}
 use mathlib.Core.List.{List}
-use Rattle.layout.specs.Room.{orNext, roomRefusal, figureOf, written_of, outputOf}
-use Rattle.swaps.specs.Fitting.{mostDaysApart, opposite, government, near, fits}
-use Rattle.swaps.specs.Offset.{someFits, withoutFit, offsetFrom}
-use Rattle.offsetting.specs.Offset.{offsetBy, offsetBook, offsettingRefusal, offset_of, offsettingOutput}
+use Rattle.layout.specs.Room.{or_next, room_refusal, figure_of, written_of, output_of}
+use Rattle.swaps.specs.Fitting.{most_days_apart, opposite, government, near, fits}
+use Rattle.swaps.specs.Offset.{some_fits, without_fit, offset_from}
+use Rattle.offsetting.specs.Offset.{offset_by, offset_book, offsetting_refusal, offset_of, offsetting_output}
 use Rattle.worked.specs.Worked.{Hold, Worked}
-use Rattle.worked.specs.OffsettingFacts.{fitFacts, offsetFacts, dearerFacts}
+use Rattle.worked.specs.OffsettingFacts.{fit_facts, offset_facts, dearer_facts}
 use Rattle.worked.proofs.WorkedBooks.{computed}
 
 -- which rows fit and which are left; and with them the call
 unfoldable rows : List Worked → List Worked
-unfolding mostDaysApart opposite government near fits someFits withoutFit offsetFrom
+unfolding most_days_apart opposite government near fits some_fits without_fit offset_from
 rows facts = facts
 
 unfoldable pub offset : List Worked → List Worked
-unfolding computed rows offsetBy offsetBook orNext roomRefusal figureOf written_of outputOf offsettingRefusal offset_of offsettingOutput
+unfolding computed rows offset_by offset_book or_next room_refusal figure_of written_of output_of offsetting_refusal offset_of offsetting_output
 offset facts = facts
 
-pub fit-facts : Hold fitFacts
-unfolding offset fitFacts
-fit-facts = refl
+pub fit_facts_lem : Hold fit_facts
+unfolding offset fit_facts
+fit_facts_lem = refl
 
-pub offset-facts : Hold offsetFacts
-unfolding offset offsetFacts
-offset-facts = refl
+pub offset_facts_lem : Hold offset_facts
+unfolding offset offset_facts
+offset_facts_lem = refl
 
-pub dearer-facts : Hold dearerFacts
-unfolding offset dearerFacts
-dearer-facts = refl
+pub dearer_facts_lem : Hold dearer_facts
+unfolding offset dearer_facts
+dearer_facts_lem = refl

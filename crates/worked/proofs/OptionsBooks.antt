@@ -2,41 +2,41 @@
 -- Assumes nothing.
 use mathlib.Core.Path.{refl}
 use mathlib.Core.List.{List}
-use Rattle.layout.specs.Room.{orNext, roomRefusal, figureOf, outputOf}
-use Rattle.options.specs.Table.{optionCount, decodeOption, optionAt, optionsOf}
-use Rattle.options.specs.Refusals.{lengthRefused, sortAllowed, sizeAllowed, allowed, firstOutside, optionsRefusal}
-use Rattle.options.specs.Delta.{isLong, deltaAmount, deltaLeg, deltaLegs, deltaBook}
-use Rattle.options.specs.Greeks.{isBought, boughtIn, soldIn, sidesIn, move_of, twiceGamma, halfShort, gammaCharge, vegaOf, vegaCharge}
-use Rattle.options.specs.Options.{optionsBook, pricingRefusal, byClass, pricedOf, pricingOutput}
-use Rattle.market_risk.specs.Entries.{pricedEntries}
+use Rattle.layout.specs.Room.{or_next, room_refusal, figure_of, output_of}
+use Rattle.options.specs.Table.{option_count, decode_option, option_at, options_of}
+use Rattle.options.specs.Refusals.{length_refused, sort_allowed, size_allowed, allowed, first_outside, options_refusal}
+use Rattle.options.specs.Delta.{is_long, delta_amount, delta_leg, delta_legs, delta_book}
+use Rattle.options.specs.Greeks.{is_bought, bought_in, sold_in, sides_in, move_of, twice_gamma, half_short, gamma_charge, vega_of, vega_charge}
+use Rattle.options.specs.Options.{options_book, pricing_refusal, by_class, priced_of, pricing_output}
+use Rattle.market_risk.specs.Entries.{priced_entries}
 use Rattle.worked.specs.Worked.{Hold, Worked}
-use Rattle.worked.specs.OptionsFacts.{priceFacts, deltaFacts, refusedFacts, greekFacts}
+use Rattle.worked.specs.OptionsFacts.{price_facts, delta_facts, refused_facts, greek_facts}
 use Rattle.worked.proofs.WorkedBooks.{computed}
 
-unfoldable optionRows : List Worked → List Worked
-unfolding optionCount decodeOption optionAt optionsOf lengthRefused sortAllowed sizeAllowed allowed firstOutside optionsRefusal
-optionRows facts = facts
+unfoldable option_rows : List Worked → List Worked
+unfolding option_count decode_option option_at options_of length_refused sort_allowed size_allowed allowed first_outside options_refusal
+option_rows facts = facts
 
 unfoldable greeks : List Worked → List Worked
-unfolding isBought boughtIn soldIn sidesIn move_of twiceGamma halfShort gammaCharge vegaOf vegaCharge
+unfolding is_bought bought_in sold_in sides_in move_of twice_gamma half_short gamma_charge vega_of vega_charge
 greeks facts = facts
 
 unfoldable pub priced : List Worked → List Worked
-unfolding computed optionRows greeks pricedEntries orNext roomRefusal figureOf outputOf isLong deltaAmount deltaLeg deltaLegs deltaBook optionsBook pricingRefusal byClass pricedOf pricingOutput
+unfolding computed option_rows greeks priced_entries or_next room_refusal figure_of output_of is_long delta_amount delta_leg delta_legs delta_book options_book pricing_refusal by_class priced_of pricing_output
 priced facts = facts
 
-pub price-facts : Hold priceFacts
-unfolding priced priceFacts
-price-facts = refl
+pub price_facts_lem : Hold price_facts
+unfolding priced price_facts
+price_facts_lem = refl
 
-pub delta-facts : Hold deltaFacts
-unfolding priced deltaFacts
-delta-facts = refl
+pub delta_facts_lem : Hold delta_facts
+unfolding priced delta_facts
+delta_facts_lem = refl
 
-pub refused-facts : Hold refusedFacts
-unfolding priced refusedFacts
+pub refused-facts : Hold refused_facts
+unfolding priced refused_facts
 refused-facts = refl
 
-pub greek-facts : Hold greekFacts
-unfolding priced greekFacts
-greek-facts = refl
+pub greek_facts_lem : Hold greek_facts
+unfolding priced greek_facts
+greek_facts_lem = refl

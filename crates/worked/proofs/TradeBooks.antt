@@ -2,33 +2,33 @@
 -- Assumes nothing.
 use mathlib.Core.Path.{refl}
 use mathlib.Core.List.{List}
-use Rattle.market_risk.specs.Entries.{tradeEntries}
-use Rattle.trade.specs.Trade.{chargeWith, leastFrom, leastWithin, placeRefusal, tradeRefusal, leastTradeOf}
+use Rattle.market_risk.specs.Entries.{trade_entries}
+use Rattle.trade.specs.Trade.{charge_with, least_from, least_within, place_refusal, trade_refusal, least_trade_of}
 use Rattle.claims.specs.Trade.{with_row}
 use Rattle.worked.specs.Worked.{Hold, Worked}
-use Rattle.worked.specs.TradeFacts.{tradeFacts, bandFacts, turnFacts, addedFacts, placeFacts}
+use Rattle.worked.specs.TradeFacts.{trade_facts, band_facts, turning_facts, added_facts, place_facts}
 use Rattle.worked.proofs.WorkedBooks.{computed}
 
 unfoldable pub traded : List Worked → List Worked
-unfolding computed tradeEntries chargeWith leastFrom leastWithin placeRefusal tradeRefusal leastTradeOf with_row
+unfolding computed trade_entries charge_with least_from least_within place_refusal trade_refusal least_trade_of with_row
 traded facts = facts
 
-pub trade-facts : Hold tradeFacts
-unfolding traded tradeFacts
-trade-facts = refl
+pub trade_facts_lem : Hold trade_facts
+unfolding traded trade_facts
+trade_facts_lem = refl
 
-pub band-facts : Hold bandFacts
-unfolding traded bandFacts
-band-facts = refl
+pub band_facts_lem : Hold band_facts
+unfolding traded band_facts
+band_facts_lem = refl
 
-pub turn_facts : Hold turnFacts
-unfolding traded turnFacts
+pub turn_facts : Hold turning_facts
+unfolding traded turning_facts
 turn_facts = refl
 
-pub added-facts : Hold addedFacts
-unfolding traded addedFacts
-added-facts = refl
+pub added_facts_lem : Hold added_facts
+unfolding traded added_facts
+added_facts_lem = refl
 
-pub place-facts : Hold placeFacts
-unfolding traded placeFacts
-place-facts = refl
+pub place_facts_lem : Hold place_facts
+unfolding traded place_facts
+place_facts_lem = refl

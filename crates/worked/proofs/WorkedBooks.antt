@@ -4,114 +4,114 @@ use mathlib.Core.Path.{refl}
 use mathlib.Core.List.{List, flat_map}
 use native.Mathlib.Decide.{ℕ_discrete}
 use Rattle.sums.specs.Sums.{sum_of, span}
-use Rattle.book.specs.Fields.{u16At, u32_at}
-use Rattle.book.specs.Counts.{countsOf, countIn, rowsBefore, rowCount, bodyBy, body_of}
-use Rattle.book.specs.Rows.{chunks, rowsIn, rows_of, decode}
-use Rattle.book.specs.Legs.{legsOf, ofClass}
-use Rattle.book.specs.Refusals.{leastKind, mostKind, mostDays, mostCoupon, floating, groupRefusal, plainRefusal, noteRefusal, termsRefusal, amountsRefusal, or_else, rowRefusal, contentsRefusal, refused, firstRefusal, refusalOf}
-use Rattle.book.specs.Parts.{accepts, start_by, partStart, partLength, handedOf}
+use Rattle.book.specs.Fields.{u16_at, u32_at}
+use Rattle.book.specs.Counts.{counts_of, count_in, rows_before, count_of_rows, body_by, body_of}
+use Rattle.book.specs.Rows.{chunks, rows_in, rows_of, decode}
+use Rattle.book.specs.Legs.{legs_of, of_class}
+use Rattle.book.specs.Refusals.{least_kind, most_kind, most_days, most_coupon, floating, group_refusal, plain_refusal, note_refusal, terms_refusal, amounts_refusal, or_else, row_refusal, contents_refusal, refused, first_refusal, refusal_of}
+use Rattle.book.specs.Parts.{accepts, start_by, part_start, part_length, handed_of}
 use Rattle.ladder.specs.Position.{matched, net, total, vertical}
-use Rattle.ladder.specs.Table.{weightIn}
+use Rattle.ladder.specs.Table.{weight_in}
 use Rattle.ladder.specs.Interest.{against, left, zones12, zones23, zones13, crossing, matches}
-use Rattle.ladder.specs.Commodity.{toBand, carry}
-use Rattle.table.specs.Loaded.{weightAt, percentsOf, table_of, weightsHold, percentsHold, tableRefusal}
+use Rattle.ladder.specs.Commodity.{to_band, carry}
+use Rattle.table.specs.Loaded.{weight_at, percents_of, table_of, weights_hold, percents_hold, table_refusal}
 use Rattle.layout.specs.Written.{written}
-use Rattle.layout.specs.Files.{twoBytes, fourBytes, rowBytes, contentsBytes, fileOf, countsBy, bookBy, bookOf}
-use Rattle.charges.specs.Bands.{firstBand, lowCoupon, interestBand, commodityBand, bandIn}
-use Rattle.charges.specs.Weights.{qualifyingWeight, interestWeight, equityWeight, specificWeight}
-use Rattle.charges.specs.Charges.{specificOf, specificCharge, interestFiguresOf, commodityFiguresOf, interestGeneral, equityGeneral, exchangeGeneral, commodityGeneral, simplifiedCommodity, interestRisk, equityRisk, ofGroup, byCurrency}
-use Rattle.charges.specs.Report.{reportWith, refusedReport, chargedReport, before, reportOf, ladderRefusal, interestLadderOf, commodityLadderOf}
-use Rattle.charges.specs.SmallBank.{smallNumber, smallRefusal, smallWith, smallBankOf}
-use Rattle.join.specs.Joined.{addedCounts, joinedCounts, joinedBody, joined, inBook, settled, joinRefusal, joinedOf, joinOutput}
-use Rattle.market_risk.specs.Entries.{handedEntries, refusalEntries, reportFigures, reportEntries, interestEntries, commodityEntries, smallFigures, smallEntries, joinedEntries}
-use Rattle.claims.specs.Demands.{joinedBook}
-use Rattle.worked.specs.PartFacts.{partFacts}
+use Rattle.layout.specs.Files.{two_bytes_of, four_bytes_of, row_bytes, contents_bytes, file_of, counts_by, book_by, book_of}
+use Rattle.charges.specs.Bands.{first_band, low_coupon, interest_band, commodity_band, band_in}
+use Rattle.charges.specs.Weights.{qualifying_weight, interest_weight, equity_weight, specific_weight}
+use Rattle.charges.specs.Charges.{specific_of, specific_charge, interest_figures_of, commodity_figures_of, interest_general, equity_general, exchange_general, commodity_general, simplified_commodity, interest_risk, equity_risk, of_group, by_currency}
+use Rattle.charges.specs.Report.{report_with, refused_report, charged_report, before, report_of, ladder_refusal, interest_ladder_of, commodity_ladder_of}
+use Rattle.charges.specs.SmallBank.{small_number, small_refusal, small_with, small_bank_of}
+use Rattle.join.specs.Joined.{added_counts, joined_counts, joined_body, joined, in_book, settled, join_refusal, joined_of, join_output}
+use Rattle.market_risk.specs.Entries.{handed_entries, refusal_entries, report_figures, report_entries, interest_entries, commodity_entries, small_figures, small_entries, joined_entries}
+use Rattle.claims.specs.Demands.{joined_book}
+use Rattle.worked.specs.PartFacts.{part_facts}
 use Rattle.worked.specs.Worked.{Worked, Hold, worked, WorkedHolds}
-use Rattle.worked.specs.Tables.{refusedTables, loadedFacts, orderFacts}
-use Rattle.worked.specs.SmallFacts.{smallFacts}
-use Rattle.worked.specs.Facts.{tableFacts, costFacts, currencyFacts, ladderFacts, refusalFacts, joinFacts}
+use Rattle.worked.specs.Tables.{refused_tables, loaded_facts, order_facts}
+use Rattle.worked.specs.SmallFacts.{small_facts}
+use Rattle.worked.specs.Facts.{table_facts, cost_facts, currency_facts, ladder_facts, refusal_facts, join_facts}
 
 -- what the definitions give: an unfolding is inherited, so each layer names its own and `computed` unfolds with all of them
 unfoldable file : List Worked → List Worked
-unfolding sum_of span flat_map u16At u32_at countsOf countIn rowsBefore rowCount bodyBy body_of chunks rowsIn rows_of decode legsOf ofClass
+unfolding sum_of span flat_map u16_at u32_at counts_of count_in rows_before count_of_rows body_by body_of chunks rows_in rows_of decode legs_of of_class
 file facts = facts
 
 unfoldable refusals : List Worked → List Worked
-unfolding leastKind mostKind mostDays mostCoupon floating groupRefusal plainRefusal noteRefusal termsRefusal amountsRefusal or_else rowRefusal contentsRefusal refused firstRefusal refusalOf accepts
+unfolding least_kind most_kind most_days most_coupon floating group_refusal plain_refusal note_refusal terms_refusal amounts_refusal or_else row_refusal contents_refusal refused first_refusal refusal_of accepts
 refusals facts = facts
 
 unfoldable ladders : List Worked → List Worked
-unfolding matched net total vertical weightIn against left zones12 zones23 zones13 crossing matches toBand carry
+unfolding matched net total vertical weight_in against left zones12 zones23 zones13 crossing matches to_band carry
 ladders facts = facts
 
 unfoldable tables : List Worked → List Worked
-unfolding weightAt percentsOf table_of weightsHold percentsHold tableRefusal
+unfolding weight_at percents_of table_of weights_hold percents_hold table_refusal
 tables facts = facts
 
 unfoldable writing : List Worked → List Worked
-unfolding written twoBytes fourBytes rowBytes contentsBytes fileOf countsBy bookBy bookOf addedCounts joinedCounts joinedBody joined inBook settled joinRefusal joinedOf joinOutput joinedBook
+unfolding written two_bytes_of four_bytes_of row_bytes contents_bytes file_of counts_by book_by book_of added_counts joined_counts joined_body joined in_book settled join_refusal joined_of join_output joined_book
 writing facts = facts
 
 unfoldable weights : List Worked → List Worked
-unfolding firstBand lowCoupon interestBand commodityBand bandIn qualifyingWeight interestWeight equityWeight specificWeight
+unfolding first_band low_coupon interest_band commodity_band band_in qualifying_weight interest_weight equity_weight specific_weight
 weights facts = facts
 
 unfoldable charges : List Worked → List Worked
-unfolding specificOf specificCharge interestFiguresOf commodityFiguresOf interestGeneral equityGeneral exchangeGeneral commodityGeneral simplifiedCommodity interestRisk equityRisk ofGroup byCurrency ℕ_discrete
+unfolding specific_of specific_charge interest_figures_of commodity_figures_of interest_general equity_general exchange_general commodity_general simplified_commodity interest_risk equity_risk of_group by_currency ℕ_discrete
 charges facts = facts
 
 unfoldable answers : List Worked → List Worked
-unfolding refusalEntries reportFigures reportEntries interestEntries commodityEntries smallFigures smallEntries joinedEntries
+unfolding refusal_entries report_figures report_entries interest_entries commodity_entries small_figures small_entries joined_entries
 answers facts = facts
 
 unfoldable pub computed : List Worked → List Worked
-unfolding file refusals ladders tables writing weights charges answers reportWith refusedReport chargedReport before reportOf ladderRefusal interestLadderOf commodityLadderOf smallNumber smallRefusal smallWith smallBankOf
+unfolding file refusals ladders tables writing weights charges answers report_with refused_report charged_report before report_of ladder_refusal interest_ladder_of commodity_ladder_of small_number small_refusal small_with small_bank_of
 computed facts = facts
 
 pub worked-books : WorkedHolds
 unfolding computed worked
 worked-books = refl
 
-pub table-facts : Hold tableFacts
-unfolding computed tableFacts
-table-facts = refl
+pub table_facts_lem : Hold table_facts
+unfolding computed table_facts
+table_facts_lem = refl
 
-pub cost-facts : Hold costFacts
-unfolding computed costFacts
-cost-facts = refl
+pub cost_facts_lem : Hold cost_facts
+unfolding computed cost_facts
+cost_facts_lem = refl
 
-pub currency-facts : Hold currencyFacts
-unfolding computed currencyFacts
+pub currency-facts : Hold currency_facts
+unfolding computed currency_facts
 currency-facts = refl
 
-pub ladder-facts : Hold ladderFacts
-unfolding computed ladderFacts
-ladder-facts = refl
+pub ladder_facts_lem : Hold ladder_facts
+unfolding computed ladder_facts
+ladder_facts_lem = refl
 
-pub refusal-facts : Hold refusalFacts
-unfolding computed refusalFacts
-refusal-facts = refl
+pub refusal_facts_lem : Hold refusal_facts
+unfolding computed refusal_facts
+refusal_facts_lem = refl
 
-pub refused-tables : Hold refusedTables
-unfolding computed refusedTables
+pub refused-tables : Hold refused_tables
+unfolding computed refused_tables
 refused-tables = refl
 
-pub loaded-facts : Hold loadedFacts
-unfolding computed loadedFacts
-loaded-facts = refl
+pub loaded_facts_lem : Hold loaded_facts
+unfolding computed loaded_facts
+loaded_facts_lem = refl
 
-pub order-facts : Hold orderFacts
-unfolding computed orderFacts
-order-facts = refl
+pub order_facts_lem : Hold order_facts
+unfolding computed order_facts
+order_facts_lem = refl
 
-pub small-facts : Hold smallFacts
-unfolding computed smallFacts
-small-facts = refl
+pub small_facts_lem : Hold small_facts
+unfolding computed small_facts
+small_facts_lem = refl
 
-pub join-facts : Hold joinFacts
-unfolding computed joinFacts
-join-facts = refl
+pub join_facts_lem : Hold join_facts
+unfolding computed join_facts
+join_facts_lem = refl
 
-pub part-facts : Hold partFacts
-unfolding computed start_by partStart partLength handedOf handedEntries partFacts
-part-facts = refl
+pub part_facts_lem : Hold part_facts
+unfolding computed start_by part_start part_length handed_of handed_entries part_facts
+part_facts_lem = refl

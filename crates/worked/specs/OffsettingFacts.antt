@@ -1,15 +1,15 @@
 -- Offsetting swap legs (P2), worked by hand: which rows fit, what is written, who is told no, and a book that costs more when it is offset.
 use Rattle.std.specs.Prelude.{ℕ, List, [], ◌∷◌, replicate}
 use Rattle.book.specs.Legs.{Leg}
-use Rattle.layout.specs.Files.{bookOf}
-use Rattle.offsetting.specs.Offset.{offsetBook, offset_of, offsettingOutput}
+use Rattle.layout.specs.Files.{book_of}
+use Rattle.offsetting.specs.Offset.{offset_book, offset_of, offsetting_output}
 use Rattle.worked.specs.Worked.{Worked, leg, government, costs}
 use Rattle.worked.specs.WrittenBooks.{issued, bond, share, writes, answered}
 
 -- ---- what offsetting does with some legs
 -- they are not refused, and are written as others
 abbrev pub leaves : (legs left : List Leg) → Worked
-leaves = writes offsettingOutput
+leaves = writes offsetting_output
 
 -- all of them are dropped, or all of them stay
 abbrev pub dropped : List Leg → Worked
@@ -20,7 +20,7 @@ stay legs = leaves legs legs
 
 -- its answer, with so many bytes of room
 abbrev pub answers : List Leg → ℕ → List ℕ → Worked
-answers legs room = answered (offset_of (bookOf legs) room).refusal (offset_of (bookOf legs) room).length
+answers legs room = answered (offset_of (book_of legs) room).refusal (offset_of (book_of legs) room).length
 
 -- ---- which two rows fit
 -- government rows of one currency, 100 long and 100 short: the days and the coupon of each
@@ -29,8 +29,8 @@ swap days coupon days-later coupon-later = leg 1 9 1 days coupon 100 0 ∷ leg 1
 
 -- days and coupons at each limit and one past it, in either order; amounts that differ; two longs; the kinds 2, 3 and 4, and two kinds; two currencies;
 -- issue numbers, which are not looked at; the short row first
-unfoldable pub fitFacts : List Worked
-fitFacts =
+unfoldable pub fit_facts : List Worked
+fit_facts =
     dropped (swap 29 800 29 800)
     ∷ stay (swap 29 800 30 800)
     ∷ dropped (swap 30 800 37 800)
@@ -62,32 +62,32 @@ fitFacts =
 
 -- ---- what is written
 -- a pair that fits, and a row between them
-abbrev pub aroundOne : List Leg
-aroundOne = bond 900 7 100 0 ∷ bond 30 4 1 0 ∷ bond 910 8 0 100 ∷ []
+abbrev pub around_one : List Leg
+around_one = bond 900 7 100 0 ∷ bond 30 4 1 0 ∷ bond 910 8 0 100 ∷ []
 
 -- rows of other classes, also of equal amounts on opposite sides
-abbrev pub otherClasses : List Leg
-otherClasses = share 6 100 0 ∷ share 7 0 100 ∷ issued 3 9 0 0 0 8 100 0 ∷ issued 4 9 0 900 0 9 0 100 ∷ []
+abbrev pub other_classes : List Leg
+other_classes = share 6 100 0 ∷ share 7 0 100 ∷ issued 3 9 0 0 0 8 100 0 ∷ issued 4 9 0 900 0 9 0 100 ∷ []
 
 -- one row, byte by byte, and the bytes past it as they were; just room, and one byte less, which writes nothing; the first later row that fits, not the
 -- nearest; of two rows that one fits the first has it; a row that was dropped is offered to none; a pair within a pair; other rows stay in their order,
 -- those of other classes too; the refusal of the book before 12; no rows
-unfoldable pub offsetFacts : List Worked
-offsetFacts =
+unfoldable pub offset_facts : List Worked
+offset_facts =
     record {
-      given = offsettingOutput (bookOf aroundOne) (replicate 26 5);
+      given = offsetting_output (book_of around_one) (replicate 26 5);
       expected = 1 ∷ 0 ∷ 0 ∷ 0 ∷ 0 ∷ 0 ∷ 0 ∷ 0 ∷ 9 ∷ 1 ∷ 30 ∷ 0 ∷ 32 ∷ 3 ∷ 4 ∷ 0 ∷ 1 ∷ 0 ∷ 0 ∷ 0 ∷ 0 ∷ 0 ∷ 0 ∷ 0 ∷ 5 ∷ 5 ∷ [];
     }
-    ∷ answers aroundOne 24 (0 ∷ 0 ∷ 0 ∷ 24 ∷ [])
-    ∷ answers aroundOne 23 (12 ∷ 0 ∷ 0 ∷ 0 ∷ [])
-    ∷ record { given = offsettingOutput (bookOf aroundOne) (replicate 23 5); expected = replicate 23 5 }
+    ∷ answers around_one 24 (0 ∷ 0 ∷ 0 ∷ 24 ∷ [])
+    ∷ answers around_one 23 (12 ∷ 0 ∷ 0 ∷ 0 ∷ [])
+    ∷ record { given = offsetting_output (book_of around_one) (replicate 23 5); expected = replicate 23 5 }
     ∷ leaves (bond 900 1 100 0 ∷ bond 910 2 0 100 ∷ bond 900 3 0 100 ∷ []) (bond 900 3 0 100 ∷ [])
     ∷ leaves (bond 900 1 100 0 ∷ bond 900 2 100 0 ∷ bond 900 3 0 100 ∷ []) (bond 900 2 100 0 ∷ [])
     ∷ leaves (bond 900 1 100 0 ∷ bond 930 2 0 100 ∷ bond 960 3 100 0 ∷ []) (bond 960 3 100 0 ∷ [])
     ∷ dropped (bond 900 1 100 0 ∷ bond 900 2 50 0 ∷ bond 900 3 0 50 ∷ bond 900 4 0 100 ∷ [])
     ∷ leaves
-    (bond 30 1 1 0 ∷ bond 900 2 0 100 ∷ issued 1 9 2 900 800 3 100 0 ∷ bond 901 4 100 0 ∷ bond 30 5 2 0 ∷ otherClasses)
-    (bond 30 1 1 0 ∷ issued 1 9 2 900 800 3 100 0 ∷ bond 30 5 2 0 ∷ otherClasses)
+    (bond 30 1 1 0 ∷ bond 900 2 0 100 ∷ issued 1 9 2 900 800 3 100 0 ∷ bond 901 4 100 0 ∷ bond 30 5 2 0 ∷ other_classes)
+    (bond 30 1 1 0 ∷ issued 1 9 2 900 800 3 100 0 ∷ bond 30 5 2 0 ∷ other_classes)
     ∷ answers (bond 900 1 100 0 ∷ bond 900 2 0 100 ∷ bond 36001 3 1 0 ∷ []) 0 (6 ∷ 2 ∷ 0 ∷ 0 ∷ [])
     ∷ stay []
     ∷ answers [] 8 (0 ∷ 0 ∷ 0 ∷ 8 ∷ [])
@@ -96,7 +96,7 @@ offsetFacts =
 -- ---- what it costs
 -- the first two fit: 25 × 70 long in zone 1, 25 × 125 short and 11 × 125 long in zone 2 cost 1,375 × 10 + 1,750 × 40 = 83,750; without them 1,375 × 100 = 137,500
 abbrev pub hedged : List ℕ
-hedged = bookOf (government 9 360 25 0 ∷ government 9 367 0 25 ∷ government 9 400 11 0 ∷ [])
+hedged = book_of (government 9 360 25 0 ∷ government 9 367 0 25 ∷ government 9 400 11 0 ∷ [])
 
-unfoldable pub dearerFacts : List Worked
-dearerFacts = costs hedged 0 83750 0 0 0 0 83750 3 ∷ costs (offsetBook hedged) 0 137500 0 0 0 0 137500 1 ∷ []
+unfoldable pub dearer_facts : List Worked
+dearer_facts = costs hedged 0 83750 0 0 0 0 83750 3 ∷ costs (offset_book hedged) 0 137500 0 0 0 0 137500 1 ∷ []

@@ -2,26 +2,26 @@
 use Rattle.std.specs.Prelude.{ℕ, ◌+◌, Bool, not, cond, eqb}
 use Rattle.sums.specs.Sums.{sum_of, span}
 use Rattle.book.specs.declared.Counts.{Counts}
-use Rattle.book.specs.Counts.{countIn, rowsBefore}
+use Rattle.book.specs.Counts.{count_in, rows_before}
 use Rattle.ladder.specs.declared.positions.Position.{Position}
 use Rattle.ladder.specs.Position.{Bands, gross}
 
 -- an amount on either side
-abbrev pub isLeft : Position → Bool
-isLeft position = not (eqb (gross position) 0)
+abbrev pub is_left : Position → Bool
+is_left position = not (eqb (gross position) 0)
 
 -- of some rows, numbered from `first` on; of a class; and of each
-abbrev pub leftRows : Bands → (first many : ℕ) → ℕ
-leftRows positions first many = sum_of (λ k. cond (isLeft (positions (first + k))) 1 0) (span 0 many)
+abbrev pub left_rows : Bands → (first many : ℕ) → ℕ
+left_rows positions first many = sum_of (λ k. cond (is_left (positions (first + k))) 1 0) (span 0 many)
 
-abbrev pub classLeft : Bands → Counts → ℕ → ℕ
-classLeft positions counts class = leftRows positions (rowsBefore counts class) (countIn counts class)
+abbrev pub class_left : Bands → Counts → ℕ → ℕ
+class_left positions counts class = left_rows positions (rows_before counts class) (count_in counts class)
 
-unfoldable pub leftCounts : Bands → Counts → Counts
-leftCounts positions counts =
+unfoldable pub left_counts : Bands → Counts → Counts
+left_counts positions counts =
     record {
-      interest = classLeft positions counts 1;
-      equity = classLeft positions counts 2;
-      exchange = classLeft positions counts 3;
-      commodity = classLeft positions counts 4;
+      interest = class_left positions counts 1;
+      equity = class_left positions counts 2;
+      exchange = class_left positions counts 3;
+      commodity = class_left positions counts 4;
     }

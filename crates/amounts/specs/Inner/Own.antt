@@ -3,14 +3,14 @@ use Rattle.std.specs.Prelude.{ℕ, ◌+◌, ◌<◌, ◌≡◌, List, [], length
 use Rattle.book.specs.declared.Row.{Row}
 use Rattle.book.specs.Rows.{decode}
 use Rattle.ladder.specs.declared.positions.Position.{Position}
-use Rattle.amounts.specs.Inner.Standing.{positionsIn, Tables}
+use Rattle.amounts.specs.Inner.Standing.{positions_in, Tables}
 
 -- the amounts of a row
-abbrev pub amountsOf : Row → Position
-amountsOf row = record { long = row.long; short = row.short }
+abbrev pub amounts_of : Row → Position
+amounts_of row = record { long = row.long; short = row.short }
 
 -- those of rows numbered from `first` on stand at their numbers, and what stood before them still does
 pub record OwnIn (first : ℕ) (rows : List Row) (longs shorts longs' shorts' : List ℕ) : Type 0 where
   pub tables : Tables longs' shorts'
-  pub here : (k : ℕ) → k < length rows → positionsIn longs' shorts' (first + k) ≡ amountsOf (get_or rows k (decode []))
-  pub before : (k : ℕ) → k < first → positionsIn longs' shorts' k ≡ positionsIn longs shorts k
+  pub here : (k : ℕ) → k < length rows → positions_in longs' shorts' (first + k) ≡ amounts_of (get_or rows k (decode []))
+  pub before : (k : ℕ) → k < first → positions_in longs' shorts' k ≡ positions_in longs shorts k

@@ -2,37 +2,37 @@
 use Rattle.std.specs.Prelude.{ℕ, ◌+◌, ◌≤◌, ◌<◌, ◌≡◌, length}
 use mathlib.Core.List.{List, [], flat_map}
 use Rattle.book.specs.declared.Counts.{Counts}
-use Rattle.book.specs.Counts.{contentsSize, classes, countIn, rowsBefore, rowCount, bodyBy}
+use Rattle.book.specs.Counts.{contents_size, classes, count_in, rows_before, count_of_rows, body_by}
 use Rattle.book.specs.declared.Row.{Row}
-use Rattle.book.specs.Inner.Reading.{partRows}
-use Rattle.book.specs.Refusals.{mostRows, mostAmount}
+use Rattle.book.specs.Inner.Reading.{part_rows}
+use Rattle.book.specs.Refusals.{most_rows, most_amount}
 use Rattle.ladder.specs.declared.positions.Position.{Position}
 use Rattle.ladder.specs.Position.{Bands, gross}
-use Rattle.layout.specs.Files.{rowBytes}
+use Rattle.layout.specs.Files.{row_bytes}
 use Rattle.issues.specs.Issues.{placed}
-use Rattle.amounts.specs.Inner.Standing.{standingRows}
+use Rattle.amounts.specs.Inner.Standing.{standing_rows}
 
 -- the bytes of a row with its amounts, none where these are zero
-abbrev pub placedBytes : Row → Position → List ℕ
-placedBytes row position = flat_map rowBytes (placed row position [])
+abbrev pub placed_bytes : Row → Position → List ℕ
+placed_bytes row position = flat_map row_bytes (placed row position [])
 
 -- and of the rows of a class
-abbrev pub standingBytes : Bands → ℕ → List Row → List ℕ
-standingBytes positions first rows = flat_map rowBytes (standingRows positions first rows)
+abbrev pub standing_bytes : Bands → ℕ → List Row → List ℕ
+standing_bytes positions first rows = flat_map row_bytes (standing_rows positions first rows)
 
 -- what is asked of them: room, and amounts within the limit
 pub record CanWriteRows (positions : Bands) (first : ℕ) (rows : List Row) (at room : ℕ) : Type 0 where
-  pub numbers : first + length rows ≤ mostRows
-  pub within : (k : ℕ) → k < length rows → gross (positions (first + k)) ≤ mostAmount
-  pub fits : at + length (standingBytes positions first rows) ≤ room
+  pub numbers : first + length rows ≤ most_rows
+  pub within : (k : ℕ) → k < length rows → gross (positions (first + k)) ≤ most_amount
+  pub fits : at + length (standing_bytes positions first rows) ≤ room
 
 -- the body of a class
-unfoldable pub standingBody : Bands → Counts → List ℕ → ℕ → List ℕ
-standingBody positions counts s class = standingBytes positions (rowsBefore counts class) (partRows (bodyBy counts s class))
+unfoldable pub standing_body : Bands → Counts → List ℕ → ℕ → List ℕ
+standing_body positions counts s class = standing_bytes positions (rows_before counts class) (part_rows (body_by counts s class))
 
 -- what is asked of a book and an output of so many bytes
 pub record CanWrite (s : List ℕ) (counts : Counts) (positions : Bands) (room : ℕ) : Type 0 where
-  pub few : rowCount counts ≤ mostRows
-  pub sizes : (class : ℕ) → length (partRows (bodyBy counts s class)) ≡ countIn counts class
-  pub within : (k : ℕ) → k < rowCount counts → gross (positions k) ≤ mostAmount
-  pub fits : contentsSize + length (flat_map (standingBody positions counts s) classes) ≤ room
+  pub few : count_of_rows counts ≤ most_rows
+  pub sizes : (class : ℕ) → length (part_rows (body_by counts s class)) ≡ count_in counts class
+  pub within : (k : ℕ) → k < count_of_rows counts → gross (positions k) ≤ most_amount
+  pub fits : contents_size + length (flat_map (standing_body positions counts s) classes) ≤ room

@@ -1,8 +1,8 @@
 -- `book::read` meets its contract: the contents are refused, or they pass and the search gives the refusal of the rows.
 use mathlib.Core.Path.{◌≡◌, sym, ◌∙◌}
 use borrow.Author.Rules.{rules}
-use Rattle.book.specs.Refusals.{contentsRefusal}
-use Rattle.book.proofs.Acceptance.{contents-sized}
+use Rattle.book.specs.Refusals.{contents_refusal}
+use Rattle.book.proofs.Acceptance.{contents_sized}
 use Rattle.book.proofs.Handing.{refused-checked, passed-checked, read_of}
 use Rattle.book.proofs.read.Statement.{statement}
 use Rattle.book.proofs.read.Tie as tie
@@ -10,19 +10,19 @@ use Rattle.book.proofs.read.Tie as tie
 returns : tie.Need-returns
 returns c =
     let at-refused = c.before.before in
-    let at-number = at-refused.before.before in
-    let checked = refused-checked _ _ at-number.contents-refusal.ensures at-refused.before.if1.true in
+    let at_number = at-refused.before.before in
+    let checked = refused-checked _ _ at_number.contents-refusal.ensures at-refused.before.if1.true in
     read_of _ (cc)
 
 -- the contents passed
-passed : (c : tie.Else1) → contentsRefusal c.before.before.before.args.book.now ≡ 0
+passed : (c : tie.Else1) → contents_refusal c.before.before.before.args.book.now ≡ 0
 passed c = sym c.before.contents-refusal.ensures ∙ c.if1.false
 
 counts-requires : tie.Need-counts-requires
-counts-requires c κs = (contents-sized _ (passed c)).contents
+counts-requires c κs = (contents_sized _ (passed c)).contents
 
 first-refused-requires : tie.Need-first-refused-requires
-first-refused-requires c κs = (c.counts.ensures, contents-sized _ (passed c.before))
+first-refused-requires c κs = (c.counts.ensures, contents_sized _ (passed c.before))
 
 returns-2 : tie.Need-returns-2
 returns-2 c =

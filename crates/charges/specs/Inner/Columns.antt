@@ -1,6 +1,6 @@
 -- The columns of last days as the code keeps them, one after the other.
 use Rattle.std.specs.Prelude.{ℕ, ◌-◌, Bool, true, ◌&&◌, List, [], ◌∷◌, ◌++◌, leb, length, take, drop, replicate}
-use Rattle.charges.specs.Bands.{highColumn, lowColumn, commodityColumn}
+use Rattle.charges.specs.Bands.{high_column, low_column, commodity_column}
 
 -- each entry of a column is at most the next
 unfoldable pub ascending : List ℕ → Bool
@@ -9,20 +9,20 @@ ascending (last ∷ []) = true
 ascending (last ∷ (next ∷ column)) = leb last next && ascending (next ∷ column)
 
 -- a column has sixteen places
-abbrev pub columnSize : ℕ
-columnSize = 16
+abbrev pub column_size : ℕ
+column_size = 16
 
 -- the largest number of two bytes, which no days are above, fills up a column
 abbrev pub largest : ℕ
 largest = 65535
 
-abbrev pub filledUp : List ℕ → List ℕ
-filledUp column = column ++ replicate (columnSize - length column) largest
+abbrev pub filled_up : List ℕ → List ℕ
+filled_up column = column ++ replicate (column_size - length column) largest
 
 -- at coupons of 300 or more, below 300, and of commodities
 abbrev pub columns : List ℕ
-columns = filledUp highColumn ++ (filledUp lowColumn ++ filledUp commodityColumn)
+columns = filled_up high_column ++ (filled_up low_column ++ filled_up commodity_column)
 
 -- the column from a place on
-abbrev pub columnFrom : ℕ → List ℕ → List ℕ
-columnFrom first all = take columnSize (drop first all)
+abbrev pub column_from : ℕ → List ℕ → List ℕ
+column_from first all = take column_size (drop first all)

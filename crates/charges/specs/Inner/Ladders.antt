@@ -3,19 +3,19 @@ use Rattle.std.specs.Prelude.{ℕ, ◌≤◌, ◌≡◌, List, length, replicate
 use Rattle.sums.specs.Every.{Every}
 use Rattle.sums.specs.Inner.Tables.{tally}
 use Rattle.book.specs.declared.Row.{Row}
-use Rattle.book.specs.Refusals.{mostRows}
+use Rattle.book.specs.Refusals.{most_rows}
 use Rattle.book.specs.Accepted.{Clean}
-use Rattle.book.specs.Inner.Reading.{partRows}
-use Rattle.ladder.specs.Rows.{inGroup}
-use Rattle.ladder.specs.Inner.Steps.{bandCount}
-use Rattle.charges.specs.Bands.{bandIn}
+use Rattle.book.specs.Inner.Reading.{part_rows}
+use Rattle.ladder.specs.Rows.{in_group}
+use Rattle.ladder.specs.Inner.Steps.{band_count}
+use Rattle.charges.specs.Bands.{band_in}
 use Rattle.charges.specs.Charges.{reading}
 
 -- a part whose rows are clean and at most 4,000
 pub record CleanPart (class : ℕ) (part : List ℕ) : Type 0 where
-  pub clean : Every (Clean class) (partRows part)
-  pub few : length (partRows part) ≤ mostRows
+  pub clean : Every (Clean class) (part_rows part)
+  pub few : length (part_rows part) ≤ most_rows
 
 pub record GroupSums (class group : ℕ) (rows : List Row) (longs shorts : List ℕ) : Type 0 where
-  pub is-longs : longs ≡ tally (bandIn class) (inGroup (reading class) group (λ row. row.long)) (replicate bandCount 0) rows
-  pub is-shorts : shorts ≡ tally (bandIn class) (inGroup (reading class) group (λ row. row.short)) (replicate bandCount 0) rows
+  pub is_longs : longs ≡ tally (band_in class) (in_group (reading class) group (λ row. row.long)) (replicate band_count 0) rows
+  pub is_shorts : shorts ≡ tally (band_in class) (in_group (reading class) group (λ row. row.short)) (replicate band_count 0) rows

@@ -2,9 +2,9 @@
 use mathlib.Core.Path.{◌≡◌, sym, ◌∙◌}
 use native.Mathlib.Omega.{arith}
 use borrow.Author.Rules.{rules}
-use Rattle.dearest.specs.Dearest.{limitsRefusal}
+use Rattle.dearest.specs.Dearest.{limits_refusal}
 use Rattle.dearest.proofs.Whole.{Limits, limits}
-use Rattle.dearest.proofs.Costs.{dearest-fits}
+use Rattle.dearest.proofs.Costs.{dearest_fits}
 use Rattle.dearest.proofs.Outcome.{outside, too_short, wrote}
 use Rattle.dearest.proofs.dearest.Statement.{statement}
 use Rattle.dearest.proofs.dearest.Tie as tie
@@ -20,7 +20,7 @@ module _ (c : tie.Else1) where
   abbrev start : tie.Start
   start = c.before.before.before
 
-  none_told : (limitsRefusal start.args.rows start.args.most).number ≡ 0
+  none_told : (limits_refusal start.args.rows start.args.most).number ≡ 0
   none_told = sym c.before.limits-refusal.ensures ∙ c.if1.false
 
   within : Limits start.args.rows start.args.most
@@ -43,12 +43,12 @@ write-book-requires c κs = let past = c.before.before in ((within past).few, (w
 mul-answer : tie.Need-overflow-mul-answer
 mul-answer c =
     let past = c.before.before.before.before.before in
-    record { fits = omega (arith, dearest-fits _ _ (within past)) }
+    record { fits = omega (arith, dearest_fits _ _ (within past)) }
 
 mul-answer-2 : tie.Need-overflow-mul-answer-2
 mul-answer-2 c =
     let past = c.before.before.before.before.before in
-    record { fits = omega (arith, dearest-fits _ _ (within past)) }
+    record { fits = omega (arith, dearest_fits _ _ (within past)) }
 
 returns-3 : tie.Need-returns-3
 returns-3 c =
@@ -56,8 +56,8 @@ returns-3 c =
     wrote (start past).args.rows (start past).args.most (start past).args.out.now (none_told past) (omega arith) c.answer3.ensures
     c.before.before.before.write-book.ensures
 
-pub dearest-spec : {M : Type 1} → statement M
-dearest-spec =
+pub dearest_spec : {M : Type 1} → statement M
+dearest_spec =
     tie.close
     (tie.spec
     (λ c κs. search rules)

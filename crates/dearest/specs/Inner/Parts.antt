@@ -4,16 +4,16 @@ use mathlib.Core.List.{List, flat_map}
 use Rattle.book.specs.declared.Counts.{Counts}
 use Rattle.book.specs.declared.Row.{Row}
 use Rattle.book.specs.Refusals.{refused}
-use Rattle.layout.specs.Files.{rowBytes}
+use Rattle.layout.specs.Files.{row_bytes}
 use Rattle.dearest.specs.Dearest.{Costed}
 
 -- so many rows of interest, and no others
-unfoldable pub interestAlone : ℕ → Counts
-interestAlone rows = record { interest = rows; equity = 0; exchange = 0; commodity = 0 }
+unfoldable pub interest_alone : ℕ → Counts
+interest_alone rows = record { interest = rows; equity = 0; exchange = 0; commodity = 0 }
 
 -- the bytes of one row, so many times
-unfoldable pub rowTimes : ℕ → Row → List ℕ
-rowTimes rows row = flat_map rowBytes (replicate rows row)
+unfoldable pub row_times : ℕ → Row → List ℕ
+row_times rows row = flat_map row_bytes (replicate rows row)
 
 -- an answer from its parts
 unfoldable pub answer_of : (number length total : ℕ) → Costed

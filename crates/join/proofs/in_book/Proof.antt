@@ -1,12 +1,12 @@
 -- `join::in_book` meets its contract: it is the definition's record.
 use mathlib.Core.Path.{refl}
-use Rattle.join.specs.Joined.{inBook}
+use Rattle.join.specs.Joined.{in_book}
 use Rattle.join.proofs.in_book.Statement.{statement}
 use Rattle.join.proofs.in_book.Tie as tie
 
 returns : tie.Need-returns
-unfolding inBook
+unfolding in_book
 returns c = refl
 
-pub in-book-spec : {M : Type 1} → statement M
-in-book-spec = tie.close (tie.spec returns)
+pub in_book_spec : {M : Type 1} → statement M
+in_book_spec = tie.close (tie.spec returns)

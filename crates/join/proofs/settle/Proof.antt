@@ -39,8 +39,8 @@ returns-5 c =
     let if2 = if3.before in
     simp (eq-eqb _ _ if2.before.before.if1.false, eq-eqb _ _ if2.if2.false, le-ltb _ _ if3.if3.false, le-ltb _ _ if4.if4.false) c.refused3.ensures
 
-pub settle-spec : {M : Type 1} → statement M
-settle-spec =
+pub settle_spec : {M : Type 1} → statement M
+settle_spec =
     tie.close
     (tie.spec
     (λ c. search rules)

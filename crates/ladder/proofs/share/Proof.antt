@@ -10,5 +10,5 @@ mul-result c = omega (arith, mul-le-mul_right c.args.amount c.requires.0)
 returns : tie.Need-returns
 returns c = omega (arith, mul-le-mul_right c.args.amount c.requires.0)
 
-pub share-spec : {M : Type 1} → statement M
-share-spec = tie.close (tie.spec mul-result returns)
+pub share_spec : {M : Type 1} → statement M
+share_spec = tie.close (tie.spec mul-result returns)

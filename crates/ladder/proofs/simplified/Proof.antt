@@ -6,7 +6,7 @@ use Rattle.ladder.proofs.simplified.Tie as tie
 returns : tie.Need-returns
 returns c =
     let zone = c.before.zone-of.ensures in
-    simp (zone.is-nets, zone.is-gross)
+    simp (zone.is_nets, zone.is_gross)
 
-pub simplified-spec : {M : Type 1} → statement M
-simplified-spec = tie.close (tie.spec (λ c κs. search rules) (λ c. search rules) (λ c. search rules) (λ c. search rules) (λ c. search rules) returns)
+pub simplified_spec : {M : Type 1} → statement M
+simplified_spec = tie.close (tie.spec (λ c κs. search rules) (λ c. search rules) (λ c. search rules) (λ c. search rules) (λ c. search rules) returns)

@@ -19,16 +19,16 @@ store (x ∷ xs) [] i h k = let no : ⊥ = omega arith in absurd no
 store (x ∷ xs) (y ∷ ys) zero h k = refl
 store (x ∷ xs) (y ∷ ys) (suc i) h k = ap (λ (l : List ℕ). x ∷ l) (store xs ys i (le_of_suc-le-suc h) (le_of_suc-le-suc k))
 
-abbrev invariant-loop : tie.invariant-loop
-invariant-loop src out₀ i₀ out i = (i ≤ length src) × (out ≡ take i src ++ drop i out₀) × (length out ≡ length out₀)
+abbrev invariant_loop : tie.invariant_loop
+invariant_loop src out₀ i₀ out i = (i ≤ length src) × (out ≡ take i src ++ drop i out₀) × (length out ≡ length out₀)
 
-abbrev decreases-loop : tie.decreases-loop
-decreases-loop src out₀ i₀ out i = length src - i
+abbrev decreases_loop : tie.decreases_loop
+decreases_loop src out₀ i₀ out i = length src - i
 
-loop-holds : tie.Need-loop-init invariant-loop decreases-loop
+loop-holds : tie.Need-loop-init invariant_loop decreases_loop
 loop-holds c = (omega arith, refl, refl)
 
-loop-again : tie.Need-loop-preserved invariant-loop decreases-loop
+loop-again : tie.Need-loop-preserved invariant_loop decreases_loop
 loop-again c =
     let at-loop = c.before.before in
     let start = at-loop.before in
@@ -36,19 +36,19 @@ loop-again c =
     let src = start.args.src.now in
     (omega arith, rw (at-loop.loop.invariant.1, add-one) (store src start.args.out.now i (omega arith) (omega arith)), rw length-set at-loop.loop.invariant.2)
 
-returns : tie.Need-returns invariant-loop decreases-loop
+returns : tie.Need-returns invariant_loop decreases_loop
 returns c =
     let at-loop = c.before in
     let src = at-loop.before.args.src.now in
     let all : at-loop.loop.i ≡ length src = omega arith in
     at-loop.loop.invariant.1 ∙ rw (all, take-length src)
 
-pub copy-front-spec : {M : Type 1} → statement M
-copy-front-spec =
+pub copy_front_spec : {M : Type 1} → statement M
+copy_front_spec =
     tie.close
     (tie.spec
-    invariant-loop
-    decreases-loop
+    invariant_loop
+    decreases_loop
     loop-holds
     (λ c. search rules)
     (λ c. search rules)

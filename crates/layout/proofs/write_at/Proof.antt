@@ -17,8 +17,8 @@ returns c =
     ap (λ (l : List ℕ). take at out ++ (l ++ drop (length out - at) (drop at out))) c.before.before.copy-front.ensures
     ∙ put_back out start.args.src.now at start.requires
 
-pub write-at-spec : {M : Type 1} → statement M
-write-at-spec =
+pub write_at_spec : {M : Type 1} → statement M
+write_at_spec =
     tie.close
     (tie.spec
     (λ c. search rules)

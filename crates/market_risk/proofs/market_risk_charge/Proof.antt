@@ -8,75 +8,75 @@ use lib.ListN.{length, replicate, length-append}
 use Rattle.layout.specs.Written.{written}
 use Rattle.layout.proofs.Writing.{written-length, written-more, written-whole}
 use Rattle.charges.specs.declared.Report.{Report}
-use Rattle.charges.proofs.Reporting.{ListsSized, lists-sized}
-use Rattle.market_risk.specs.Entries.{refusalEntries, reportFigures, reportEntries}
+use Rattle.charges.proofs.Reporting.{ListsSized, lists_sized}
+use Rattle.market_risk.specs.Entries.{refusal_entries, report_figures, report_entries}
 use Rattle.market_risk.proofs.market_risk_charge.Statement.{statement}
 use Rattle.market_risk.proofs.market_risk_charge.Tie as tie
 
 -- the refusal, the figures and the rows taken
 abbrev figures : Report → List ℕ
-figures report = refusalEntries report.refusal ++ (reportFigures report ++ (report.taken ∷ []))
+figures report = refusal_entries report.refusal ++ (report_figures report ++ (report.taken ∷ []))
 
 -- the report that the library gave has its 32 entries in each list
 sized : (c : tie.After-charge) → ListsSized c.charge.result
-sized c = rw c.charge.ensures (lists-sized _ _)
+sized c = rw c.charge.ensures (lists_sized _ _)
 
 -- the output stays as long as it is
 first-sized : (report : Report) {out1 : List ℕ} → out1 ≡ written (replicate 75 0) 0 (figures report) → length out1 ≡ 75
-unfolding refusalEntries reportFigures
+unfolding refusal_entries report_figures
 first-sized report e1 = ap length e1 ∙ written-length (replicate 75 0) (figures report) 0 (omega arith)
 
 second-sized : (report : Report) → ListsSized report → (out1 : List ℕ) {out2 : List ℕ} → length out1 ≡ 75 → out2 ≡ written out1 11 report.specifics → length out2 ≡ 75
-second-sized report many out1 whole e2 = ap length e2 ∙ written-length out1 report.specifics 11 (omega (arith, many.specifics-many)) ∙ whole
+second-sized report many out1 whole e2 = ap length e2 ∙ written-length out1 report.specifics 11 (omega (arith, many.specifics_many)) ∙ whole
 
-entries-in-steps : (report : Report) → ListsSized report → {out1 out2 out3 : List ℕ} → out1 ≡ written (replicate 75 0) 0 (figures report)
-    → out2 ≡ written out1 11 report.specifics → out3 ≡ written out2 43 report.generals → out3 ≡ reportEntries report
-unfolding refusalEntries reportFigures reportEntries
-entries-in-steps report many e1 e2 e3 =
+entries_in_steps : (report : Report) → ListsSized report → {out1 out2 out3 : List ℕ} → out1 ≡ written (replicate 75 0) 0 (figures report)
+    → out2 ≡ written out1 11 report.specifics → out3 ≡ written out2 43 report.generals → out3 ≡ report_entries report
+unfolding refusal_entries report_figures report_entries
+entries_in_steps report many e1 e2 e3 =
     let lists = figures report ++ report.specifics in
-    let places : length lists ≡ 43 = rw (length-append (figures report) report.specifics, many.specifics-many) in
-    let all : length (lists ++ report.generals) ≡ 75 = rw (length-append lists report.generals, places, many.generals-many) in
+    let places : length lists ≡ 43 = rw (length-append (figures report) report.specifics, many.specifics_many) in
+    let all : length (lists ++ report.generals) ≡ 75 = rw (length-append lists report.generals, places, many.generals_many) in
     written-more (replicate 75 0) lists report.generals 0 43
-    (written-more (replicate 75 0) (figures report) report.specifics 0 11 e1 e2 refl (omega (arith, many.specifics-many))) e3
-    (omega (arith, places)) (omega (arith, many.generals-many))
+    (written-more (replicate 75 0) (figures report) report.specifics 0 11 e1 e2 refl (omega (arith, many.specifics_many))) e3
+    (omega (arith, places)) (omega (arith, many.generals_many))
     ∙ written-whole (replicate 75 0) (lists ++ report.generals) all
     ∙ append_assoc (figures report) report.specifics report.generals
 
 slice-aggregate-write-entries-2 : tie.Need-slice-aggregate-write-entries-2
-slice-aggregate-write-entries-2 c = sym (sized c.before.before.before.before.before.before.before.before.before.before).specifics-many
+slice-aggregate-write-entries-2 c = sym (sized c.before.before.before.before.before.before.before.before.before.before).specifics_many
 
 write-entries-requires-2 : tie.Need-write-entries-requires-2
-unfolding refusalEntries reportFigures
+unfolding refusal_entries report_figures
 write-entries-requires-2 c κs =
     let first = c.before.before in
     let charged = first.before.before.before.before.before.before.before.before.before in
-    (first-sized charged.charge.result first.write_entries.ensures, omega (arith, (sized charged).specifics-many))
+    (first-sized charged.charge.result first.write_entries.ensures, omega (arith, (sized charged).specifics_many))
 
 slice-aggregate-write-entries-3 : tie.Need-slice-aggregate-write-entries-3
-slice-aggregate-write-entries-3 c = sym (sized c.before.before.before.before.before.before.before.before.before.before.before.before.before).generals-many
+slice-aggregate-write-entries-3 c = sym (sized c.before.before.before.before.before.before.before.before.before.before.before.before.before).generals_many
 
 write-entries-requires-3 : tie.Need-write-entries-requires-3
-unfolding refusalEntries reportFigures
+unfolding refusal_entries report_figures
 write-entries-requires-3 c κs =
     let second = c.before.before in
     let first = second.before.before.before in
     let charged = first.before.before.before.before.before.before.before.before.before in
     let report = charged.charge.result in (
       second-sized report (sized charged) _ (first-sized report first.write_entries.ensures) second.write-entries2.ensures,
-      omega (arith, (sized charged).generals-many),
+      omega (arith, (sized charged).generals_many),
     )
 
 returns : tie.Need-returns
-unfolding refusalEntries reportFigures
+unfolding refusal_entries report_figures
 returns c =
     let second = c.before.before.before in
     let first = second.before.before.before in
     let charged = first.before.before.before.before.before.before.before.before.before in
-    entries-in-steps charged.charge.result (sized charged) first.write_entries.ensures second.write-entries2.ensures c.write-entries3.ensures
-    ∙ ap reportEntries charged.charge.ensures
+    entries_in_steps charged.charge.result (sized charged) first.write_entries.ensures second.write-entries2.ensures c.write-entries3.ensures
+    ∙ ap report_entries charged.charge.ensures
 
-pub market-risk-charge-spec : {M : Type 1} → statement M
-market-risk-charge-spec =
+pub market_risk_charge_spec : {M : Type 1} → statement M
+market_risk_charge_spec =
     tie.close
     (tie.spec
     (λ c. search rules)

@@ -12,16 +12,16 @@ use Rattle.layout.specs.Written.{written}
 use Rattle.market_risk.proofs.write_entries.Statement.{statement}
 use Rattle.market_risk.proofs.write_entries.Tie as tie
 
-abbrev invariant-loop : tie.invariant-loop
-invariant-loop entries out₀ at i₀ out i = (i ≤ length entries) × (out ≡ paste out₀ at entries i) × (length out ≡ 75)
+abbrev invariant_loop : tie.invariant_loop
+invariant_loop entries out₀ at i₀ out i = (i ≤ length entries) × (out ≡ paste out₀ at entries i) × (length out ≡ 75)
 
-abbrev decreases-loop : tie.decreases-loop
-decreases-loop entries out₀ at i₀ out i = length entries - i
+abbrev decreases_loop : tie.decreases_loop
+decreases_loop entries out₀ at i₀ out i = length entries - i
 
-loop-holds : tie.Need-loop-init invariant-loop decreases-loop
+loop-holds : tie.Need-loop-init invariant_loop decreases_loop
 loop-holds c = (omega arith, paste-zero c.args.out.now c.args.at c.args.entries.now, c.requires.0)
 
-loop-again : tie.Need-loop-preserved invariant-loop decreases-loop
+loop-again : tie.Need-loop-preserved invariant_loop decreases_loop
 loop-again c =
     let at-loop = c.before.before in
     let args = at-loop.before.args in
@@ -31,7 +31,7 @@ loop-again c =
       rw length-set at-loop.loop.invariant.2,
     )
 
-returns : tie.Need-returns invariant-loop decreases-loop
+returns : tie.Need-returns invariant_loop decreases_loop
 unfolding written
 returns c =
     let args = c.before.before.args in
@@ -39,12 +39,12 @@ returns c =
     let all : c.before.loop.i ≡ length src = omega arith in
     c.before.loop.invariant.1 ∙ rw (all, take-length src) (append_assoc (take args.at args.out.now) src (drop (args.at + length src) args.out.now))
 
-pub write-entries-spec : {M : Type 1} → statement M
-write-entries-spec =
+pub write_entries_spec : {M : Type 1} → statement M
+write_entries_spec =
     tie.close
     (tie.spec
-    invariant-loop
-    decreases-loop
+    invariant_loop
+    decreases_loop
     loop-holds
     (λ c. search rules)
     (λ c. search rules)

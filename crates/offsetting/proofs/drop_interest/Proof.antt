@@ -6,26 +6,26 @@ use native.Mathlib.Omega.{arith}
 use borrow.Author.Rules.{rules}
 use lib.ListN.{length}
 use Rattle.book.specs.declared.Counts.{Counts}
-use Rattle.book.specs.Counts.{countsOf, bodyBy}
-use Rattle.book.specs.Legs.{legsOf, ofClass}
-use Rattle.book.specs.Refusals.{mostRows}
+use Rattle.book.specs.Counts.{counts_of, body_by}
+use Rattle.book.specs.Legs.{legs_of, of_class}
+use Rattle.book.specs.Refusals.{most_rows}
 use Rattle.book.specs.Accepted.{Accepted}
-use Rattle.book.specs.Inner.Reading.{partRows}
+use Rattle.book.specs.Inner.Reading.{part_rows}
 use Rattle.book.proofs.Placing.{before-within}
-use Rattle.book.proofs.ClassRows.{class-size, rows_are}
+use Rattle.book.proofs.ClassRows.{class_size, rows_are}
 use Rattle.offsetting.specs.Inner.Pairs.{Dropped}
 use Rattle.offsetting.proofs.drop_interest.Statement.{statement}
 use Rattle.offsetting.proofs.drop_interest.Tie as tie
 
 -- read by counts that are the book's own
-module _ {s : List ℕ} (ok : Accepted s) {counts : Counts} (own : counts ≡ countsOf s) {part : List ℕ} (is-part : part ≡ bodyBy counts s 1) where
-  interest : partRows part ≡ ofClass 1 (legsOf s)
+module _ {s : List ℕ} (ok : Accepted s) {counts : Counts} (own : counts ≡ counts_of s) {part : List ℕ} (is-part : part ≡ body_by counts s 1) where
+  interest : part_rows part ≡ of_class 1 (legs_of s)
   interest = rows_are s ok 1 (omega arith) (omega arith) counts own refl is-part
 
-  few : length (partRows part) ≤ mostRows
-  few = rw interest (omega (arith, class-size s ok 1 (omega arith) (omega arith), before-within (countsOf s) 1, ok.few))
+  few : length (part_rows part) ≤ most_rows
+  few = rw interest (omega (arith, class_size s ok 1 (omega arith) (omega arith), before-within (counts_of s) 1, ok.few))
 
-  dropped : {longs shorts longs' shorts' : List ℕ} → Dropped (partRows part) longs shorts longs' shorts' → Dropped (ofClass 1 (legsOf s)) longs shorts longs' shorts'
+  dropped : {longs shorts longs' shorts' : List ℕ} → Dropped (part_rows part) longs shorts longs' shorts' → Dropped (of_class 1 (legs_of s)) longs shorts longs' shorts'
   dropped did = rw interest at did
 
 drop-pairs-requires : tie.Need-drop-pairs-requires
@@ -38,5 +38,5 @@ returns c =
     let start = c.before.before.before.before.before in
     dropped start.requires.1 start.requires.0 c.before.before.before.body.ensures c.drop-pairs.ensures
 
-pub drop-interest-spec : {M : Type 1} → statement M
-drop-interest-spec = tie.close (tie.spec (λ c κs. search rules) drop-pairs-requires returns)
+pub drop_interest_spec : {M : Type 1} → statement M
+drop_interest_spec = tie.close (tie.spec (λ c κs. search rules) drop-pairs-requires returns)

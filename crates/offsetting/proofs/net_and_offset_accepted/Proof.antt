@@ -4,33 +4,33 @@ use Prim.Native.Nat.{ℕ}
 use borrow.Author.Rules.{rules}
 use Rattle.book.specs.declared.Refusal.{Refusal}
 use Rattle.amounts.specs.Inner.Standing.{Stands}
-use Rattle.amounts.proofs.Outcome.{stands-written, stands-output}
-use Rattle.netting.specs.Netted.{issuesRefusal, nettedClass, comparisonsOf}
-use Rattle.netting.proofs.Answers.{refused-issues, turned-away, too_short, carried-out}
-use Rattle.offsetting.specs.Offset.{offsetBy}
-use Rattle.offsetting.specs.NetOffset.{netOffsetBook, netOffsetRefusal, netOffsetOf, netOffsetOutput}
-use Rattle.offsetting.proofs.Outcome.{offset-stands}
+use Rattle.amounts.proofs.Outcome.{stands_written, stands_output}
+use Rattle.netting.specs.Netted.{issues_refusal, netted_class, comparisons_of}
+use Rattle.netting.proofs.Answers.{refused-issues, turned-away, too_short, carried_out}
+use Rattle.offsetting.specs.Offset.{offset_by}
+use Rattle.offsetting.specs.NetOffset.{net_offset_book, net_offset_refusal, net_offset_of, net_offset_output}
+use Rattle.offsetting.proofs.Outcome.{offset_stands}
 use Rattle.offsetting.proofs.net_and_offset_accepted.Statement.{statement}
 use Rattle.offsetting.proofs.net_and_offset_accepted.Tie as tie
 
 -- what netting found is 13, 14 or none
-found : (c : tie.After-settle) → issuesRefusal c.before.before.before.before.before.args.book.now ≡ c.settle.result.refusal
+found : (c : tie.After-settle) → issues_refusal c.before.before.before.before.before.args.book.now ≡ c.settle.result.refusal
 found c = refused-issues _ c.before.before.before.before.before.requires.1 c.settle.ensures.is
 
-none_found : (c : tie.Else1) → (issuesRefusal c.before.before.before.before.before.before.before.before.args.book.now).number ≡ 0
+none_found : (c : tie.Else1) → (issues_refusal c.before.before.before.before.before.before.before.before.args.book.now).number ≡ 0
 none_found c = ap (λ (refusal : Refusal). refusal.number) (found c.before.before.before) ∙ c.if1.false
 
 -- the netted rows without the pairs stand in the tables
-now-stands : (c : tie.After-drop-interest) →
+now_stands : (c : tie.After-drop-interest) →
     let book = c.before.before.before.before.before.before.before.before.before.before.before.args.book.now in
-    Stands book (offsetBy (nettedClass book)) c.drop-interest.new.1.1.0 c.drop-interest.new.1.1.1.0
-now-stands c = offset-stands (c.before.before.before.before.before.before.settle.ensures.nets c.before.before.before.if1.false) c.drop-interest.ensures
+    Stands book (offset_by (netted_class book)) c.drop-interest.new.1.1.0 c.drop-interest.new.1.1.1.0
+now_stands c = offset_stands (c.before.before.before.before.before.before.settle.ensures.nets c.before.before.before.if1.false) c.drop-interest.ensures
 
 returns : tie.Need-returns
-unfolding netOffsetOf netOffsetOutput netOffsetRefusal
+unfolding net_offset_of net_offset_output net_offset_refusal
 returns c =
     let start = c.before.before.before.before.before.before.before.before.before in
-    let answers = turned-away _ (netOffsetBook start.args.book.now) start.args.out.now (comparisonsOf start.args.book.now) _
+    let answers = turned-away _ (net_offset_book start.args.book.now) start.args.out.now (comparisons_of start.args.book.now) _
     (found c.before.before.before.before) c.before.if1.true in
     (c.refused.ensures ∙ answers.is, answers.output)
 
@@ -38,34 +38,34 @@ drop-interest-requires : tie.Need-drop-interest-requires
 drop-interest-requires c κs = (c.before.before.before.before.before.before.before.before.before.before.requires.0, c.before.before.before.before.before.before.before.before.before.before.requires.1, (c.before.before.before.before.before.settle.ensures.nets c.before.before.if1.false).tables)
 
 write-book-requires : tie.Need-write-book-requires
-write-book-requires c κs = (c.before.before.before.before.before.before.before.before.before.before.before.before.before.before.requires.0, (now-stands c.before.before.before).can)
+write-book-requires c κs = (c.before.before.before.before.before.before.before.before.before.before.before.before.before.before.requires.0, (now_stands c.before.before.before).can)
 
 returns-2 : tie.Need-returns-2
-unfolding netOffsetOf netOffsetOutput netOffsetRefusal netOffsetBook
+unfolding net_offset_of net_offset_output net_offset_refusal net_offset_book
 returns-2 c =
     let write = c.before.before.before.before.before.before in
     let drop = write.before.before.before.before in
     let start = drop.before.before.before.before.before.before.before.before.before.before.before in
-    let now = now-stands drop in
-    let answers = too_short _ _ start.args.out.now (comparisonsOf start.args.book.now) (none_found drop.before.before.before)
-    (stands-written now start.args.out.now write.write-book.ensures.0) (stands-output now _ start.args.out.now write.write-book.ensures.1) c.before.if2.true in
+    let now = now_stands drop in
+    let answers = too_short _ _ start.args.out.now (comparisons_of start.args.book.now) (none_found drop.before.before.before)
+    (stands_written now start.args.out.now write.write-book.ensures.0) (stands_output now _ start.args.out.now write.write-book.ensures.1) c.before.if2.true in
     (c.refused2.ensures ∙ answers.is, answers.output)
 
 returns-3 : tie.Need-returns-3
-unfolding netOffsetOf netOffsetOutput netOffsetRefusal netOffsetBook
+unfolding net_offset_of net_offset_output net_offset_refusal net_offset_book
 returns-3 c =
     let write = c.before.before.before.before.before in
     let drop = write.before.before.before.before in
     let start = drop.before.before.before.before.before.before.before.before.before.before.before in
-    let now = now-stands drop in
-    let answers = carried-out _ _ start.args.out.now _ (none_found drop.before.before.before)
-    (stands-written now start.args.out.now write.write-book.ensures.0) (stands-output now _ start.args.out.now write.write-book.ensures.1) c.if2.false in
+    let now = now_stands drop in
+    let answers = carried_out _ _ start.args.out.now _ (none_found drop.before.before.before)
+    (stands_written now start.args.out.now write.write-book.ensures.0) (stands_output now _ start.args.out.now write.write-book.ensures.1) c.if2.false in
     let done = write.write-book.result in
-    let counted = drop.before.before.before.before.before.before.settle.ensures.is-compared drop.before.before.before.if1.false in
+    let counted = drop.before.before.before.before.before.before.settle.ensures.is_compared drop.before.before.before.if1.false in
     (ap (λ (n : ℕ). record { refusal = done.refusal; length = done.length; comparisons = n }) counted ∙ answers.is, answers.output)
 
-pub net-and-offset-accepted-spec : {M : Type 1} → statement M
-net-and-offset-accepted-spec =
+pub net_and_offset_accepted_spec : {M : Type 1} → statement M
+net_and_offset_accepted_spec =
     tie.close
     (tie.spec
     (λ c κs. search rules)

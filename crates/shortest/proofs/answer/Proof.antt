@@ -12,5 +12,5 @@ returns c =
     let start = c.before in
     ap (λ (r : Refusal). record { refusal = r; length = start.args.length; accepted = start.args.accepted }) c.refused.ensures
 
-pub answer-spec : {M : Type 1} → statement M
-answer-spec = tie.close (tie.spec (λ c κs. search rules) returns)
+pub answer_spec : {M : Type 1} → statement M
+answer_spec = tie.close (tie.spec (λ c κs. search rules) returns)

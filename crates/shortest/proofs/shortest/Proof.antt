@@ -6,10 +6,10 @@ use borrow.Author.Rules.{rules}
 use lib.Dec.{eqb}
 use Prim.Native.Nat.{ℕ, ◌<◌}
 use Rattle.book.specs.declared.Refusal.{Refusal}
-use Rattle.book.specs.Refusals.{refusalOf}
+use Rattle.book.specs.Refusals.{refusal_of}
 use Rattle.book.specs.Parts.{accepts}
 use Rattle.layout.proofs.Writing.{written-nothing}
-use Rattle.shortest.proofs.Outcome.{file-none, wrote}
+use Rattle.shortest.proofs.Outcome.{file_none, wrote}
 use Rattle.shortest.proofs.shortest.Statement.{statement}
 use Rattle.shortest.proofs.shortest.Tie as tie
 
@@ -21,8 +21,8 @@ returns c =
     let s = start.args.book.now in
     let out = start.args.out.now in
     let number = ap (λ (r : Refusal). r.number) check.check.ensures in
-    let few : (refusalOf s).number < 2 = omega arith in
-    wrote s out [] (file-none s few) 0 refl _ (ap (λ (n : ℕ). eqb n 0) (sym number)) (omega arith) c.answer.ensures (sym (written-nothing out 0))
+    let few : (refusal_of s).number < 2 = omega arith in
+    wrote s out [] (file_none s few) 0 refl _ (ap (λ (n : ℕ). eqb n 0) (sym number)) (omega arith) c.answer.ensures (sym (written-nothing out 0))
 
 show-contents-requires : tie.Need-show-contents-requires
 show-contents-requires c κs =
@@ -36,8 +36,8 @@ show-row-requires c κs =
     let number = ap (λ (r : Refusal). r.number) check.check.ensures in
     (omega arith, ap (λ (r : Refusal). r.row) check.check.ensures)
 
-pub shortest-spec : {M : Type 1} → statement M
-shortest-spec =
+pub shortest_spec : {M : Type 1} → statement M
+shortest_spec =
     tie.close
     (tie.spec
     (λ c κs. search rules)

@@ -5,14 +5,14 @@ use Prim.Native.Nat.{ℕ, ◌+◌, ◌*◌, ◌≤◌, ◌<◌}
 use native.Mathlib.Omega.{arith}
 use borrow.Author.Rules.{rules}
 use lib.ListN.{length}
-use Rattle.book.specs.Counts.{contentsSize, rowSize, countsOf, rowCount}
+use Rattle.book.specs.Counts.{contents_size, row_size, counts_of, count_of_rows}
 use Rattle.book.specs.Rows.{decode}
-use Rattle.book.specs.Refusals.{refusalOf}
+use Rattle.book.specs.Refusals.{refusal_of}
 use Rattle.book.proofs.Walking.{bytes_at}
 use Rattle.book.proofs.Faults.{of_row}
-use Rattle.shortest.specs.Shortest.{shortestFile}
+use Rattle.shortest.specs.Shortest.{shortest_file}
 use Rattle.shortest.specs.Inner.Places.{RowIn}
-use Rattle.shortest.proofs.Outcome.{file-row, row_within, row-size, not-accepted, has-contents, both-written, kept, wrote}
+use Rattle.shortest.proofs.Outcome.{file_row, row_within, row_size_lem, not_accepted, has-contents, both_written, kept, wrote}
 use Rattle.shortest.proofs.show_row.Statement.{statement}
 use Rattle.shortest.proofs.show_row.Tie as tie
 
@@ -21,7 +21,7 @@ returns c =
     let start = c.before.before.before.before in
     let s = start.args.book.now in
     let many = start.requires.0 in
-    kept s start.args.out.now (shortestFile s) refl (contentsSize + rowSize) (row-size s many) (not-accepted s (omega arith)) (omega arith) c.answer.ensures
+    kept s start.args.out.now (shortest_file s) refl (contents_size + row_size) (row_size_lem s many) (not_accepted s (omega arith)) (omega arith) c.answer.ensures
 
 counts-requires : tie.Need-counts-requires
 counts-requires c κs = let start = c.before.before.before in has-contents start.args.book.now (omega (arith, start.requires.0))
@@ -29,7 +29,7 @@ counts-requires c κs = let start = c.before.before.before in has-contents start
 class-of-requires : tie.Need-class-of-requires
 class-of-requires c κs =
     let start = c.before.before.before.before in
-    omega (arith, row_within start.args.book.now start.requires.0, ap rowCount c.counts.ensures)
+    omega (arith, row_within start.args.book.now start.requires.0, ap count_of_rows c.counts.ensures)
 
 -- where the row lies
 module _ (start : tie.Start) where
@@ -65,16 +65,16 @@ returns-2 c =
     let s = start.args.book.now in
     let out = start.args.out.now in
     let many = start.pre.0 in
-    let there : RowIn (countsOf s) (refusalOf s).row class.class_of.result =
+    let there : RowIn (counts_of s) (refusal_of s).row class.class_of.result =
     rw (← start.pre.1, ← class.before.counts.ensures) class.class_of.ensures in
     let row = read.row_from.ensures ∙ ap (λ (n : ℕ). decode (bytes_at s n)) start.pre.1 in
-    let writes = both-written out (omega arith) one.one_in.ensures row contents.write-contents.ensures write.write-row.ensures in
-    wrote s out _ (file-row s many _ there) (contentsSize + rowSize) (sym (ap length (file-row s many _ there)) ∙ row-size s many) _ (not-accepted s (omega arith)) (omega arith)
+    let writes = both_written out (omega arith) one.one_in.ensures row contents.write-contents.ensures write.write-row.ensures in
+    wrote s out _ (file_row s many _ there) (contents_size + row_size) (sym (ap length (file_row s many _ there)) ∙ row_size_lem s many) _ (not_accepted s (omega arith)) (omega arith)
     c.answer2.ensures
     writes
 
-pub show-row-spec : {M : Type 1} → statement M
-show-row-spec =
+pub show_row_spec : {M : Type 1} → statement M
+show_row_spec =
     tie.close
     (tie.spec
     (λ c. search rules)

@@ -1,7 +1,7 @@
 -- Where a row of the file stands, the contents of a book of one row, and an answer by its parts.
 use Rattle.std.specs.Prelude.{ℕ, ◌+◌, ◌≤◌, ◌<◌, Bool, cond, eqb}
 use Rattle.book.specs.declared.Counts.{Counts}
-use Rattle.book.specs.Counts.{rowsBefore}
+use Rattle.book.specs.Counts.{rows_before}
 use Rattle.book.specs.Refusals.{refused}
 use Rattle.shortest.specs.Shortest.{Shown}
 
@@ -9,12 +9,12 @@ use Rattle.shortest.specs.Shortest.{Shown}
 pub record RowIn (counts : Counts) (row class : ℕ) : Type 0 where
   pub low : 1 ≤ class
   pub high : class ≤ 4
-  pub from : rowsBefore counts class ≤ row
-  pub to : row < rowsBefore counts (class + 1)
+  pub from : rows_before counts class ≤ row
+  pub to : row < rows_before counts (class + 1)
 
 -- one row in a class, and none in the others
-unfoldable pub oneIn : ℕ → Counts
-oneIn class =
+unfoldable pub one_in : ℕ → Counts
+one_in class =
     record {
       interest = cond (eqb class 1) 1 0;
       equity = cond (eqb class 2) 1 0;

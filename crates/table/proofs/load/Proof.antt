@@ -7,13 +7,13 @@ use borrow.Author.Rules.{rules}
 use borrow.Author.Tests.{eq-eqb, ne_eqb}
 use lib.ListN.{length}
 use Rattle.ladder.specs.declared.Table.{Table}
-use Rattle.table.specs.Loaded.{tableSize, table_of, weightsHold, percentsHold, tableRefusal}
-use Rattle.table.specs.Inner.Loading.{loadedOf}
+use Rattle.table.specs.Loaded.{table_size, table_of, weights_hold, percents_hold, table_refusal}
+use Rattle.table.specs.Inner.Loading.{loaded_of}
 use Rattle.table.proofs.load.Statement.{statement}
 use Rattle.table.proofs.load.Tie as tie
 
 returns : tie.Need-returns
-unfolding loadedOf tableRefusal
+unfolding loaded_of table_refusal
 returns c = simp (ne_eqb _ _ c.before.if1.true, c.none.ensures)
 
 turned : (test : Bool) (a b : ℕ) → cond (not test) b a ≡ cond test a b
@@ -21,20 +21,20 @@ turned true a b = refl
 turned false a b = refl
 
 -- of 36 bytes: the table, and 0 or 19
-given-table : (bytes : List ℕ) (table : Table) (test : Bool) → length bytes ≡ tableSize → table ≡ table_of bytes
-    → test ≡ (weightsHold 0 table.weights && percentsHold table.percents)
-    → record { number = cond test 0 19; table = table } ≡ loadedOf bytes
-unfolding tableRefusal loadedOf
-given-table bytes table test sized is t = rw (t, is) (simp (eq-eqb _ _ sized, turned))
+given_table : (bytes : List ℕ) (table : Table) (test : Bool) → length bytes ≡ table_size → table ≡ table_of bytes
+    → test ≡ (weights_hold 0 table.weights && percents_hold table.percents)
+    → record { number = cond test 0 19; table = table } ≡ loaded_of bytes
+unfolding table_refusal loaded_of
+given_table bytes table test sized is t = rw (t, is) (simp (eq-eqb _ _ sized, turned))
 
 -- what is found of 36 bytes
 module _ (c : tie.After-both) where
   abbrev read : tie.After-read-table
   read = c.before.before.before.before.before
 
-  found : (test : Bool) → c.both.result ≡ test → record { number = cond test 0 19; table = read.read_table.result } ≡ loadedOf read.before.before.before.args.bytes.now
+  found : (test : Bool) → c.both.result ≡ test → record { number = cond test 0 19; table = read.read_table.result } ≡ loaded_of read.before.before.before.args.bytes.now
   found test is =
-      given-table _ _ test read.before.if1.left read.read_table.ensures
+      given_table _ _ test read.before.if1.left read.read_table.ensures
       (sym is ∙ c.both.ensures ∙ ap₂ ◌&&◌ c.before.before.weights-hold.ensures c.before.percents-hold.ensures)
 
 returns-2 : tie.Need-returns-2

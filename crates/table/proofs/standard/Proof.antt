@@ -6,5 +6,5 @@ use Rattle.table.proofs.standard.Tie as tie
 returns : tie.Need-returns
 returns c = refl
 
-pub standard-spec : {M : Type 1} → statement M
-standard-spec = tie.close (tie.spec returns)
+pub standard_spec : {M : Type 1} → statement M
+standard_spec = tie.close (tie.spec returns)

@@ -2,14 +2,14 @@
 use Rattle.std.specs.Prelude.{cond, List, ℕ, eqb, length, replicate}
 use Rattle.ladder.specs.declared.Percents.{Percents}
 use Rattle.ladder.specs.declared.Table.{Table}
-use Rattle.table.specs.Loaded.{tableSize, tableBands, table_of, tableRefusal}
+use Rattle.table.specs.Loaded.{table_size, table_bands, table_of, table_refusal}
 pub use Rattle.table.specs.declared.Loaded.{Loaded}
 
-abbrev pub noPercents : Percents
-noPercents = record { vertical = 0; zone1 = 0; zone2 = 0; zone3 = 0; adjacent = 0; apart = 0 }
+abbrev pub no_percents : Percents
+no_percents = record { vertical = 0; zone1 = 0; zone2 = 0; zone3 = 0; adjacent = 0; apart = 0 }
 
-abbrev pub noTable : Table
-noTable = record { weights = replicate tableBands 0; percents = noPercents }
+abbrev pub no_table : Table
+no_table = record { weights = replicate table_bands 0; percents = no_percents }
 
-unfoldable pub loadedOf : List ℕ → Loaded
-loadedOf bytes = record { number = tableRefusal bytes; table = cond (eqb (length bytes) tableSize) (table_of bytes) noTable }
+unfoldable pub loaded_of : List ℕ → Loaded
+loaded_of bytes = record { number = table_refusal bytes; table = cond (eqb (length bytes) table_size) (table_of bytes) no_table }

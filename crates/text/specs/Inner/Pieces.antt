@@ -8,9 +8,9 @@ pub record Wrote (out : List ℕ) (at : ℕ) (piece : List ℕ) (after : ℕ) (o
   pub same : length out' ≡ length out
 
 -- seven names of 78 bytes together, and seven numbers of at most 20 digits, each with a space and a line end
-abbrev pub mostText : ℕ
-mostText = 232
+abbrev pub most_text : ℕ
+most_text = 232
 
 -- the longest line of a name: a space, 20 digits, the line end
-abbrev pub lineMost : List ℕ → ℕ
-lineMost name = length name + 22
+abbrev pub line_most : List ℕ → ℕ
+line_most name = length name + 22

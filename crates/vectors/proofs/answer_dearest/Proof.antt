@@ -8,8 +8,8 @@ use Rattle.vectors.proofs.answer_dearest.Tie as tie
 slice-aggregate-dearest : tie.Need-slice-aggregate-dearest
 slice-aggregate-dearest c = simp length-take (omega arith)
 
-pub answer-dearest-spec : {M : Type 1} → statement M
-answer-dearest-spec =
+pub answer_dearest_spec : {M : Type 1} → statement M
+answer_dearest_spec =
     tie.close
     (tie.spec
     (λ c κs. search rules)

@@ -4,18 +4,18 @@ use Rattle.vectors.proofs.main.Statement.{statement}
 use Rattle.vectors.proofs.main.Tie as tie
 
 -- nothing has to hold from turn to turn
-abbrev invariant-loop : tie.invariant-loop
-invariant-loop turns₀ turns = Unit {0}
+abbrev invariant_loop : tie.invariant_loop
+invariant_loop turns₀ turns = Unit {0}
 
-abbrev decreases-loop : tie.decreases-loop
-decreases-loop turns₀ turns = turns
+abbrev decreases_loop : tie.decreases_loop
+decreases_loop turns₀ turns = turns
 
 pub main_spec : {M : Type 1} → statement M
 main_spec =
     tie.close
     (tie.spec
-    invariant-loop
-    decreases-loop
+    invariant_loop
+    decreases_loop
     (λ c. tt)
     (λ c κs. tt)
     (λ c. search rules)

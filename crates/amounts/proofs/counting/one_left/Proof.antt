@@ -16,5 +16,5 @@ returns c = (counted c.before.is-left.ensures true c.if1.true, omega arith)
 returns-2 : tie.Need-returns-2
 returns-2 c = (counted c.before.is-left.ensures false c.if1.false, omega arith)
 
-pub one-left-spec : {M : Type 1} → statement M
-one-left-spec = tie.close (tie.spec (λ c κs. search rules) returns returns-2)
+pub one_left_spec : {M : Type 1} → statement M
+one_left_spec = tie.close (tie.spec (λ c κs. search rules) returns returns-2)

@@ -3,7 +3,7 @@ use Prim.Native.Nat.{ℕ, ◌+◌, ◌<◌}
 use lib.ListN.{get_or}
 use mathlib.Core.Path.{refl}
 use native.Mathlib.Omega.{arith}
-use Rattle.book.specs.Fields.{u16At}
+use Rattle.book.specs.Fields.{u16_at}
 use borrow.Author.Rules.{rules}
 use Rattle.book.proofs.fields.u16_at.Statement.{statement}
 use Rattle.book.proofs.fields.u16_at.Tie as tie
@@ -25,11 +25,11 @@ add-result-2 : tie.Need-overflow-add-result-2
 add-result-2 c = omega (arith, byte c c.before.before.args.at, byte c (c.before.before.args.at + 1))
 
 returns : tie.Need-returns
-unfolding u16At
+unfolding u16_at
 returns c = refl
 
-pub u16-at-spec : {M : Type 1} → statement M
-u16-at-spec =
+pub u16_at_spec : {M : Type 1} → statement M
+u16_at_spec =
     tie.close
     (tie.spec
     (λ c. search rules)

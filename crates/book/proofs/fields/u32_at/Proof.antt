@@ -8,8 +8,8 @@ returns : tie.Need-returns
 unfolding u32_at
 returns c = cc
 
-pub u32-at-spec : {M : Type 1} → statement M
-u32-at-spec =
+pub u32_at_spec : {M : Type 1} → statement M
+u32_at_spec =
     tie.close
     (tie.spec
     (λ c. search rules)

@@ -12,5 +12,5 @@ returns-2 : tie.Need-returns-2
 unfolding floating
 returns-2 c = simp (ne_eqb _ _ c.if1.false)
 
-pub is-floating-spec : {M : Type 1} → statement M
-is-floating-spec = tie.close (tie.spec returns returns-2)
+pub is_floating_spec : {M : Type 1} → statement M
+is_floating_spec = tie.close (tie.spec returns returns-2)

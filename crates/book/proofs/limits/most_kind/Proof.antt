@@ -1,20 +1,20 @@
 -- `book::limits::most_kind` meets its contract: the match on the class is the definition's.
 use borrow.Author.Tests.{ne_eqb}
-use Rattle.book.specs.Refusals.{mostKind}
+use Rattle.book.specs.Refusals.{most_kind}
 use Rattle.book.proofs.limits.most_kind.Statement.{statement}
 use Rattle.book.proofs.limits.most_kind.Tie as tie
 
 returns : tie.Need-returns
-unfolding mostKind
+unfolding most_kind
 returns c = rw c.match.keys1
 
 returns-2 : tie.Need-returns-2
-unfolding mostKind
+unfolding most_kind
 returns-2 c = rw c.match.keys2
 
 returns-3 : tie.Need-returns-3
-unfolding mostKind
+unfolding most_kind
 returns-3 c = simp (ne_eqb _ _ c.match.rest.0.1, ne_eqb _ _ c.match.rest.1)
 
-pub most-kind-spec : {M : Type 1} → statement M
-most-kind-spec = tie.close (tie.spec returns returns-2 returns-3)
+pub most_kind_spec : {M : Type 1} → statement M
+most_kind_spec = tie.close (tie.spec returns returns-2 returns-3)

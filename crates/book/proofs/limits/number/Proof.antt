@@ -8,5 +8,5 @@ returns c = simp c.if1.true
 returns-2 : tie.Need-returns-2
 returns-2 c = simp c.if1.false
 
-pub number-spec : {M : Type 1} → statement M
-number-spec = tie.close (tie.spec returns returns-2)
+pub number_spec : {M : Type 1} → statement M
+number_spec = tie.close (tie.spec returns returns-2)

@@ -10,5 +10,5 @@ returns c = simp (← c.before.least-kind.ensures, lt-ltb _ _ c.if1.true)
 returns-2 : tie.Need-returns-2
 returns-2 c = simp (← c.before.before.least-kind.ensures, le-ltb _ _ c.before.if1.false, c.most-kind.ensures)
 
-pub wrong-kind-spec : {M : Type 1} → statement M
-wrong-kind-spec = tie.close (tie.spec (λ c. search rules) (λ c. search rules) returns returns-2)
+pub wrong_kind_spec : {M : Type 1} → statement M
+wrong_kind_spec = tie.close (tie.spec (λ c. search rules) (λ c. search rules) returns returns-2)

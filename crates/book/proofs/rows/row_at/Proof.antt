@@ -4,26 +4,26 @@ use mathlib.Core.List.{[]}
 use Prim.Native.Nat.{◌≤◌}
 use native.Mathlib.Omega.{arith}
 use lib.ListN.{length, get_or-eq_default}
-use Rattle.book.specs.Fields.{u16At, u32_at}
-use Rattle.book.specs.Rows.{rowsIn, decode}
+use Rattle.book.specs.Fields.{u16_at, u32_at}
+use Rattle.book.specs.Rows.{rows_in, decode}
 use Rattle.book.specs.Inner.Reading.{row_of}
-use Rattle.book.proofs.Chunks.{chunk-at, row_count}
+use Rattle.book.proofs.Chunks.{chunk_at, row_count}
 use borrow.Author.Rules.{rules}
 use Rattle.book.proofs.rows.row_at.Statement.{statement}
 use Rattle.book.proofs.rows.row_at.Tie as tie
 
 returns : tie.Need-returns
-unfolding row_of rowsIn
+unfolding row_of rows_in
 returns c =
     let start = c.before.before.before in
-    c.row_from.ensures ∙ ap decode (sym (chunk-at _ start.args.part.now start.args.i (omega arith)))
+    c.row_from.ensures ∙ ap decode (sym (chunk_at _ start.args.part.now start.args.i (omega arith)))
 
 returns-2 : tie.Need-returns-2
-unfolding row_of decode u16At u32_at
+unfolding row_of decode u16_at u32_at
 returns-2 c =
     let start = c.before.before in
-    let past : length (rowsIn start.args.part.now) ≤ start.args.i = omega (arith, row_count start.args.part.now) in
-    rw (get_or-eq_default (rowsIn start.args.part.now) [] past)
+    let past : length (rows_in start.args.part.now) ≤ start.args.i = omega (arith, row_count start.args.part.now) in
+    rw (get_or-eq_default (rows_in start.args.part.now) [] past)
 
-pub row-at-spec : {M : Type 1} → statement M
-row-at-spec = tie.close (tie.spec (λ c. search rules) (λ c. search rules) returns returns-2)
+pub row_at_spec : {M : Type 1} → statement M
+row_at_spec = tie.close (tie.spec (λ c. search rules) (λ c. search rules) returns returns-2)

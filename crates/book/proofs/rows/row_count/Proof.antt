@@ -7,5 +7,5 @@ use Rattle.book.proofs.rows.row_count.Tie as tie
 returns : tie.Need-returns
 returns c = sym (row_count _)
 
-pub row-count-spec : {M : Type 1} → statement M
-row-count-spec = tie.close (tie.spec returns)
+pub row_count_spec : {M : Type 1} → statement M
+row_count_spec = tie.close (tie.spec returns)

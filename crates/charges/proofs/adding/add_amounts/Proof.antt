@@ -14,8 +14,8 @@ add-shorts c = let start = c.before.before.before.before in omega (arith, start.
 returns : tie.Need-returns
 returns c = (refl, refl)
 
-pub add-amounts-spec : {M : Type 1} → statement M
-add-amounts-spec =
+pub add_amounts_spec : {M : Type 1} → statement M
+add_amounts_spec =
     tie.close
     (tie.spec
     (λ c. search rules)

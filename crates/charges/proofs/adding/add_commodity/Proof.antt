@@ -3,8 +3,8 @@ use mathlib.Core.Path.{refl}
 use Prim.Native.Nat.{◌+◌}
 use native.Mathlib.Omega.{arith}
 use borrow.Author.Rules.{rules}
-use Rattle.charges.specs.Inner.Slots.{legCounted}
-use Rattle.charges.proofs.Places.{commodity-slot, group-slot}
+use Rattle.charges.specs.Inner.Slots.{leg_counted}
+use Rattle.charges.proofs.Places.{commodity-slot, group_slot_lem}
 use Rattle.charges.proofs.adding.add_commodity.Statement.{statement}
 use Rattle.charges.proofs.adding.add_commodity.Tie as tie
 
@@ -20,14 +20,14 @@ add-rows-2 c =
     omega (arith, start.requires.1.2.room (96 + start.args.row.group) (omega (arith, start.requires.0.0.group)))
 
 returns : tie.Need-returns
-unfolding legCounted
+unfolding leg_counted
 returns c =
     let at = c.before in
     let row = at.before.before.before.before.before.args.row in
-    rw (commodity-slot row, ← at.before.before.before.commodity-band.ensures.0, group-slot row 4 96 refl) (at.add-amounts.ensures.0, at.add-amounts.ensures.1, refl)
+    rw (commodity-slot row, ← at.before.before.before.commodity-band.ensures.0, group_slot_lem row 4 96 refl) (at.add-amounts.ensures.0, at.add-amounts.ensures.1, refl)
 
-pub add-commodity-spec : {M : Type 1} → statement M
-add-commodity-spec =
+pub add_commodity_spec : {M : Type 1} → statement M
+add_commodity_spec =
     tie.close
     (tie.spec
     (λ c. search rules)

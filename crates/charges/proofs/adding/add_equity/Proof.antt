@@ -3,9 +3,9 @@ use mathlib.Core.Path.{refl}
 use Prim.Native.Nat.{◌+◌}
 use native.Mathlib.Omega.{arith}
 use borrow.Author.Rules.{rules}
-use Rattle.charges.specs.Inner.Slots.{legWith}
-use Rattle.charges.proofs.Places.{equity-slot, group-slot}
-use Rattle.charges.proofs.Progress.{most-specific}
+use Rattle.charges.specs.Inner.Slots.{leg_with}
+use Rattle.charges.proofs.Places.{equity-slot, group_slot_lem}
+use Rattle.charges.proofs.Progress.{most_specific}
 use Rattle.charges.proofs.adding.add_equity.Statement.{statement}
 use Rattle.charges.proofs.adding.add_equity.Tie as tie
 
@@ -20,16 +20,16 @@ add-specifics-2 c =
     let start = c.before.before.before.before.before.before in
     let clean = start.requires.0 in
     rw c.before.specific-charge.ensures
-    (omega (arith, start.requires.1.2.room (32 + start.args.row.group) (omega (arith, clean.group)), most-specific (legWith 2 start.args.row) clean))
+    (omega (arith, start.requires.1.2.room (32 + start.args.row.group) (omega (arith, clean.group)), most_specific (leg_with 2 start.args.row) clean))
 
 returns : tie.Need-returns
 returns c =
     let at = c.before.before in
     let row = at.before.before.before.before.args.row in
-    rw (equity-slot row, group-slot row 2 32 refl, ← c.before.specific-charge.ensures) (at.add-amounts.ensures.0, at.add-amounts.ensures.1, refl)
+    rw (equity-slot row, group_slot_lem row 2 32 refl, ← c.before.specific-charge.ensures) (at.add-amounts.ensures.0, at.add-amounts.ensures.1, refl)
 
-pub add-equity-spec : {M : Type 1} → statement M
-add-equity-spec =
+pub add_equity_spec : {M : Type 1} → statement M
+add_equity_spec =
     tie.close
     (tie.spec
     (λ c. search rules)

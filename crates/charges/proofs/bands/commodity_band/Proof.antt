@@ -6,15 +6,15 @@ use Prim.Native.Nat.{ℕ, ◌+◌, ◌*◌, ◌≤◌}
 use native.Mathlib.Omega.{arith}
 use borrow.Author.Rules.{rules}
 use lib.ListN.{length, get_or}
-use Rattle.charges.specs.Bands.{firstBand, commodityColumn, commodityBand}
-use Rattle.charges.specs.Inner.Columns.{ascending, columnSize, largest, columns, columnFrom}
+use Rattle.charges.specs.Bands.{first_band, commodity_column, commodity_band}
+use Rattle.charges.specs.Inner.Columns.{ascending, column_size, largest, columns, column_from}
 use Rattle.charges.proofs.Columns.{first-within, first-filled}
 use Rattle.charges.proofs.bands.commodity_band.Statement.{statement}
 use Rattle.charges.proofs.bands.commodity_band.Tie as tie
 
 asked : (all : List ℕ) (days : ℕ) → all ≡ columns → days ≤ largest
-    → ((length all ≡ 48) × (2 * columnSize + columnSize ≤ 48))
-    × ((ascending (columnFrom (2 * columnSize) all) ≡ true) × (days ≤ get_or all (2 * columnSize + 15) 0))
+    → ((length all ≡ 48) × (2 * column_size + column_size ≤ 48))
+    × ((ascending (column_from (2 * column_size) all) ≡ true) × (days ≤ get_or all (2 * column_size + 15) 0))
 unfolding ascending
 asked all days is h = rw is ((refl, omega arith), (refl, h))
 
@@ -22,15 +22,15 @@ first-band-requires : tie.Need-first-band-requires
 first-band-requires c κs = asked _ _ c.requires (omega arith)
 
 returns : tie.Need-returns
-unfolding commodityBand
+unfolding commodity_band
 returns c =
     let row = c.before.args.row in
     let days : row.days ≤ largest = omega arith in
-    let is = c.first-band.ensures ∙ ap (λ (all : List ℕ). firstBand row.days (columnFrom (2 * columnSize) all)) c.before.requires ∙ first-filled row.days days commodityColumn 10 in
-    (is, omega (arith, is, first-within row.days commodityColumn))
+    let is = c.first-band.ensures ∙ ap (λ (all : List ℕ). first_band row.days (column_from (2 * column_size) all)) c.before.requires ∙ first-filled row.days days commodity_column 10 in
+    (is, omega (arith, is, first-within row.days commodity_column))
 
-pub commodity-band-spec : {M : Type 1} → statement M
-commodity-band-spec =
+pub commodity_band_spec : {M : Type 1} → statement M
+commodity_band_spec =
     tie.close
     (tie.spec
     (λ c. search rules)

@@ -8,10 +8,10 @@ use borrow.Author.Rules.{rules}
 use borrow.Author.Tests.{ltb-true, ltb-false}
 use lib.ListN.{length, get_or}
 use lib.Dec.{ltb}
-use Rattle.charges.specs.Bands.{firstBand}
-use Rattle.charges.specs.Inner.Columns.{columnSize, columnFrom}
-use Rattle.charges.proofs.Arrays.{part-reads, part-sized}
-use Rattle.charges.proofs.Columns.{first_by, first_past, counts-once, Told, three-told}
+use Rattle.charges.specs.Bands.{first_band}
+use Rattle.charges.specs.Inner.Columns.{column_size, column_from}
+use Rattle.charges.proofs.Arrays.{part_reads, part_sized}
+use Rattle.charges.proofs.Columns.{first_by, first_past, counts_once, Told, three_told}
 use Rattle.charges.proofs.bands.first_band.Statement.{statement}
 use Rattle.charges.proofs.bands.first_band.Tie as tie
 
@@ -20,19 +20,19 @@ module _ (start : tie.Start) where
   test j = ltb (get_or start.args.columns.now j 0) start.args.days
 
   abbrev band : ℕ
-  band = firstBand start.args.days (columnFrom start.args.first start.args.columns.now)
+  band = first_band start.args.days (column_from start.args.first start.args.columns.now)
 
   abbrev quarter : ℕ
   quarter = bool_byte (test (start.args.first + 3)) + bool_byte (test (start.args.first + 7)) + bool_byte (test (start.args.first + 11))
 
   -- an entry of the column, by its place in the columns
-  entry : (i : ℕ) → i < columnSize → get_or (columnFrom start.args.first start.args.columns.now) i 0 ≡ get_or start.args.columns.now (start.args.first + i) 0
-  entry i h = (part-reads start.args.first columnSize start.args.columns.now).below i h
+  entry : (i : ℕ) → i < column_size → get_or (column_from start.args.first start.args.columns.now) i 0 ≡ get_or start.args.columns.now (start.args.first + i) 0
+  entry i h = (part_reads start.args.first column_size start.args.columns.now).below i h
 
-  sized : length (columnFrom start.args.first start.args.columns.now) ≡ columnSize
-  sized = part-sized start.args.first columnSize start.args.columns.now (omega (arith, start.pre.0))
+  sized : length (column_from start.args.first start.args.columns.now) ≡ column_size
+  sized = part_sized start.args.first column_size start.args.columns.now (omega (arith, start.pre.0))
 
-  told : (j i : ℕ) → j ≡ start.args.first + i → i < columnSize → Told band i (test j)
+  told : (j i : ℕ) → j ≡ start.args.first + i → i < column_size → Told band i (test j)
   told j i e h =
       rw e
       (record {
@@ -44,30 +44,30 @@ module _ (start : tie.Start) where
   few =
       omega (
         arith,
-        counts-once (test (start.args.first + 3)),
-        counts-once (test (start.args.first + 7)),
-        counts-once (test (start.args.first + 11)),
+        counts_once (test (start.args.first + 3)),
+        counts_once (test (start.args.first + 7)),
+        counts_once (test (start.args.first + 11)),
       )
 
   -- the first place of the quarter
   abbrev at : ℕ
   at = start.args.first + 4 * quarter
 
-  in-quarter : (4 * quarter ≤ band) × (band ≤ 4 * quarter + 3)
-  in-quarter =
-      let last = first_by start.args.days (columnFrom start.args.first start.args.columns.now) 15 (rw (entry 15 (omega arith)) start.pre.1.1) in
+  in_quarter : (4 * quarter ≤ band) × (band ≤ 4 * quarter + 3)
+  in_quarter =
+      let last = first_by start.args.days (column_from start.args.first start.args.columns.now) 15 (rw (entry 15 (omega arith)) start.pre.1.1) in
       omega (
         arith,
         few,
-        three-told 4 3 band (test (start.args.first + 3)) (test (start.args.first + 7)) (test (start.args.first + 11)) (omega arith) (omega (arith, last))
+        three_told 4 3 band (test (start.args.first + 3)) (test (start.args.first + 7)) (test (start.args.first + 11)) (omega arith) (omega (arith, last))
             (told _ 3 refl (omega arith)) (told _ 7 refl (omega arith)) (told _ 11 refl (omega arith)),
       )
 
-  is-band : 4 * quarter + bool_byte (test at) + bool_byte (test (at + 1)) + bool_byte (test (at + 2)) ≡ band
-  is-band =
+  is_band : 4 * quarter + bool_byte (test at) + bool_byte (test (at + 1)) + bool_byte (test (at + 2)) ≡ band
+  is_band =
       omega (
         arith,
-        three-told 1 (4 * quarter) band (test at) (test (at + 1)) (test (at + 2)) (omega (arith, in-quarter)) (omega (arith, in-quarter))
+        three_told 1 (4 * quarter) band (test at) (test (at + 1)) (test (at + 2)) (omega (arith, in_quarter)) (omega (arith, in_quarter))
             (told _ (4 * quarter) refl (omega (arith, few))) (told _ (4 * quarter + 1) (omega arith) (omega (arith, few))) (told _ (4 * quarter + 2) (omega arith) (omega (arith, few))),
       )
 
@@ -93,7 +93,7 @@ element-copy-out-result : tie.Need-element-copy-out-result
 element-copy-out-result c = omega (arith, few c.before.before.before)
 
 add-result : tie.Need-overflow-add-result
-add-result c = let start = c.before.before.before.before in omega (arith, few start, counts-once (test start (at start)))
+add-result c = let start = c.before.before.before.before in omega (arith, few start, counts_once (test start (at start)))
 
 add-result-2 : tie.Need-overflow-add-result-2
 add-result-2 c = omega (arith, few c.before.before.before.before)
@@ -107,7 +107,7 @@ element-copy-out-result-2 c = omega (arith, few c.before.before.before.before)
 add-result-3 : tie.Need-overflow-add-result-3
 add-result-3 c =
     let start = c.before.before.before.before.before in
-    omega (arith, few start, counts-once (test start (at start)), counts-once (test start (at start + 1)))
+    omega (arith, few start, counts_once (test start (at start)), counts_once (test start (at start + 1)))
 
 add-result-4 : tie.Need-overflow-add-result-4
 add-result-4 c = omega (arith, few c.before.before.before.before.before)
@@ -119,13 +119,13 @@ element-copy-out-result-3 : tie.Need-element-copy-out-result-3
 element-copy-out-result-3 c = omega (arith, few c.before.before.before.before.before)
 
 add-result-5 : tie.Need-overflow-add-result-5
-add-result-5 c = let start = c.before.before.before.before.before.before in omega (arith, is-band start, in-quarter start, few start)
+add-result-5 c = let start = c.before.before.before.before.before.before in omega (arith, is_band start, in_quarter start, few start)
 
 returns : tie.Need-returns
-returns c = is-band c.before.before.before.before.before.before
+returns c = is_band c.before.before.before.before.before.before
 
-pub first-band-spec : {M : Type 1} → statement M
-first-band-spec =
+pub first_band_spec : {M : Type 1} → statement M
+first_band_spec =
     tie.close
     (tie.spec
     (λ c. search rules)

@@ -7,46 +7,46 @@ use native.Mathlib.Omega.{arith}
 use mir.Val.{bool_byte}
 use borrow.Author.Rules.{rules}
 use lib.ListN.{length, get_or}
-use Rattle.charges.specs.Bands.{firstBand, highColumn, lowColumn, interestBand}
-use Rattle.charges.specs.Inner.Columns.{ascending, columnSize, largest, columns, columnFrom}
-use Rattle.charges.proofs.Columns.{counts-once, first-filled}
-use Rattle.charges.proofs.Places.{interest-below}
+use Rattle.charges.specs.Bands.{first_band, high_column, low_column, interest_band}
+use Rattle.charges.specs.Inner.Columns.{ascending, column_size, largest, columns, column_from}
+use Rattle.charges.proofs.Columns.{counts_once, first-filled}
+use Rattle.charges.proofs.Places.{interest_below}
 use Rattle.charges.proofs.bands.interest_band.Statement.{statement}
 use Rattle.charges.proofs.bands.interest_band.Tie as tie
 
 -- each column ascends, and no days are above its last entry
 asked : (all : List ℕ) (days : ℕ) (low : Bool) → all ≡ columns → days ≤ largest
-    → ((length all ≡ 48) × (columnSize * bool_byte low + columnSize ≤ 48))
-    × ((ascending (columnFrom (columnSize * bool_byte low) all) ≡ true) × (days ≤ get_or all (columnSize * bool_byte low + 15) 0))
+    → ((length all ≡ 48) × (column_size * bool_byte low + column_size ≤ 48))
+    × ((ascending (column_from (column_size * bool_byte low) all) ≡ true) × (days ≤ get_or all (column_size * bool_byte low + 15) 0))
 unfolding ascending
 asked all days true is h = rw is ((refl, omega arith), (refl, h))
 asked all days false is h = rw is ((refl, omega arith), (refl, h))
 
 found : (days : ℕ) (low : Bool) → days ≤ largest
-    → firstBand days (columnFrom (columnSize * bool_byte low) columns) ≡ cond low (firstBand days lowColumn) (firstBand days highColumn)
-found days true h = first-filled days h lowColumn 2
-found days false h = first-filled days h highColumn 4
+    → first_band days (column_from (column_size * bool_byte low) columns) ≡ cond low (first_band days low_column) (first_band days high_column)
+found days true h = first-filled days h low_column 2
+found days false h = first-filled days h high_column 4
 
 mul-first-band : tie.Need-overflow-mul-first-band
-mul-first-band c = omega (arith, counts-once c.low-coupon.result)
+mul-first-band c = omega (arith, counts_once c.low-coupon.result)
 
 first-band-requires : tie.Need-first-band-requires
 first-band-requires c κs = asked _ _ c.low-coupon.result c.before.requires (omega arith)
 
 returns : tie.Need-returns
-unfolding interestBand
+unfolding interest_band
 returns c =
     let row = c.before.before.args.row in
     let low = c.before.low-coupon.result in
     let here = found row.days low (omega arith) in
     let is = c.first-band.ensures
-    ∙ ap (λ (all : List ℕ). firstBand row.days (columnFrom (columnSize * bool_byte low) all)) c.before.before.requires
+    ∙ ap (λ (all : List ℕ). first_band row.days (column_from (column_size * bool_byte low) all)) c.before.before.requires
     ∙ here
-    ∙ ap (λ (test : Bool). cond test (firstBand row.days lowColumn) (firstBand row.days highColumn)) c.before.low-coupon.ensures in
-    (is, omega (arith, is, interest-below row))
+    ∙ ap (λ (test : Bool). cond test (first_band row.days low_column) (first_band row.days high_column)) c.before.low-coupon.ensures in
+    (is, omega (arith, is, interest_below row))
 
-pub interest-band-spec : {M : Type 1} → statement M
-interest-band-spec =
+pub interest_band_spec : {M : Type 1} → statement M
+interest_band_spec =
     tie.close
     (tie.spec
     (λ c. search rules)

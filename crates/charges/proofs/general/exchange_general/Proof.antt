@@ -7,28 +7,28 @@ use lib.ListN.{take, drop}
 use Rattle.sums.specs.Sums.{span}
 use Rattle.ladder.specs.Inner.Steps.{bands}
 use Rattle.ladder.proofs.Agreeing.{Agree, gross-agree, shorthand-agree}
-use Rattle.charges.specs.Charges.{eightPerCent}
-use Rattle.charges.specs.Inner.Slots.{groupCount, exchangeFirst}
-use Rattle.charges.specs.Inner.Tables.{bandsFrom}
-use Rattle.charges.proofs.Arrays.{arrays-agree, part-reads, part-sized}
+use Rattle.charges.specs.Charges.{eight_per_cent}
+use Rattle.charges.specs.Inner.Slots.{group_count, exchange_first}
+use Rattle.charges.specs.Inner.Tables.{bands_from}
+use Rattle.charges.proofs.Arrays.{arrays_agree, part_reads, part_sized}
 use Rattle.charges.proofs.general.exchange_general.Statement.{statement}
 use Rattle.charges.proofs.general.exchange_general.Tie as tie
 
 module _ (start : tie.Start) where
   -- the parts hold the groups of the tables
-  read : Agree groupCount
-      (bands (take groupCount (drop exchangeFirst start.args.longs.now)) (take groupCount (drop exchangeFirst start.args.shorts.now)))
-      (bandsFrom start.args.longs.now start.args.shorts.now exchangeFirst)
+  read : Agree group_count
+      (bands (take group_count (drop exchange_first start.args.longs.now)) (take group_count (drop exchange_first start.args.shorts.now)))
+      (bands_from start.args.longs.now start.args.shorts.now exchange_first)
   read =
-      arrays-agree groupCount _ _ _ _ (part-reads exchangeFirst groupCount start.args.longs.now) (part-reads exchangeFirst groupCount start.args.shorts.now)
+      arrays_agree group_count _ _ _ _ (part_reads exchange_first group_count start.args.longs.now) (part_reads exchange_first group_count start.args.shorts.now)
 
 shorthand-requires : tie.Need-shorthand-requires
 unfolding span
 shorthand-requires c κs =
     let start = c.before.before.before.before in (
       (
-        omega (arith, start.requires.0, part-sized exchangeFirst groupCount start.args.longs.now (omega (arith, start.requires.0))),
-        omega (arith, start.requires.1, part-sized exchangeFirst groupCount start.args.shorts.now (omega (arith, start.requires.1))),
+        omega (arith, start.requires.0, part_sized exchange_first group_count start.args.longs.now (omega (arith, start.requires.0))),
+        omega (arith, start.requires.1, part_sized exchange_first group_count start.args.shorts.now (omega (arith, start.requires.1))),
       ),
       omega (arith, gross-agree (read start), start.requires.2),
     )
@@ -42,10 +42,10 @@ mul-result c =
 returns : tie.Need-returns
 returns c =
     let start = c.before.before.before.before.before in
-    ap (λ (n : ℕ). eightPerCent * n) (c.shorthand.ensures.is ∙ shorthand-agree (read start))
+    ap (λ (n : ℕ). eight_per_cent * n) (c.shorthand.ensures.is ∙ shorthand-agree (read start))
 
-pub exchange-general-spec : {M : Type 1} → statement M
-exchange-general-spec =
+pub exchange_general_spec : {M : Type 1} → statement M
+exchange_general_spec =
     tie.close
     (tie.spec
     (λ c. search rules)

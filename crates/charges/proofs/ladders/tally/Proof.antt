@@ -8,37 +8,37 @@ use borrow.Author.Rules.{rules}
 use lib.ListN.{length, get_or, take, length-map}
 use lib.Seq.{take_all}
 use Rattle.book.specs.Rows.{decode}
-use Rattle.book.specs.Inner.Reading.{partRows}
+use Rattle.book.specs.Inner.Reading.{part_rows}
 use Rattle.charges.specs.Inner.Ladders.{GroupSums}
 use Rattle.charges.proofs.Legs.{Bounded, bounded}
-use Rattle.charges.proofs.Tallying.{row_at, side-room, group-next, group-kept}
+use Rattle.charges.proofs.Tallying.{row_at, side_room, group_next, group_kept}
 use Rattle.charges.proofs.ladders.tally.Statement.{statement}
 use Rattle.charges.proofs.ladders.tally.Tie as tie
 
-abbrev invariant-loop : tie.invariant-loop
-invariant-loop part class group longs₀ shorts₀ columns rows i₀ longs shorts i = (i ≤ rows) × GroupSums class group (take i (partRows part)) longs shorts
+abbrev invariant_loop : tie.invariant_loop
+invariant_loop part class group longs₀ shorts₀ columns rows i₀ longs shorts i = (i ≤ rows) × GroupSums class group (take i (part_rows part)) longs shorts
 
-abbrev decreases-loop : tie.decreases-loop
-decreases-loop part class group longs₀ shorts₀ columns rows i₀ longs shorts i = rows - i
+abbrev decreases_loop : tie.decreases_loop
+decreases_loop part class group longs₀ shorts₀ columns rows i₀ longs shorts i = rows - i
 
 -- the row of a turn: one of the part's
-row_here : (c : tie.After-row-at invariant-loop decreases-loop)
-    → c.row_at.result ≡ get_or (partRows c.before.before.before.before.before.args.part.now) c.before.before.loop.i (decode [])
+row_here : (c : tie.After-row-at invariant_loop decreases_loop)
+    → c.row_at.result ≡ get_or (part_rows c.before.before.before.before.before.args.part.now) c.before.before.loop.i (decode [])
 row_here c = c.row_at.ensures ∙ sym (row_at _ _)
 
-below : (c : tie.After-row-at invariant-loop decreases-loop) → c.before.before.loop.i < length (partRows c.before.before.before.before.before.args.part.now)
+below : (c : tie.After-row-at invariant_loop decreases_loop) → c.before.before.loop.i < length (part_rows c.before.before.before.before.before.args.part.now)
 below c = rw length-map (omega (arith, c.before.before.before.row_count.ensures))
 
 -- what the sums of all rows come to
-most : (start : tie.Start invariant-loop decreases-loop) → Bounded start.args.class (partRows start.args.part.now)
+most : (start : tie.Start invariant_loop decreases_loop) → Bounded start.args.class (part_rows start.args.part.now)
 most start = bounded _ _ start.requires.0.clean start.requires.0.few
 
-loop-holds : tie.Need-loop-init invariant-loop decreases-loop
+loop-holds : tie.Need-loop-init invariant_loop decreases_loop
 loop-holds c =
     let start = c.before.before in
-    (omega arith, record { is-longs = start.requires.1.0; is-shorts = start.requires.1.1 })
+    (omega arith, record { is_longs = start.requires.1.0; is_shorts = start.requires.1.1 })
 
-add-longs : tie.Need-overflow-add-longs invariant-loop decreases-loop
+add-longs : tie.Need-overflow-add-longs invariant_loop decreases_loop
 add-longs c =
     let at = c.before.before in
     let at_row = at.before.before.before.before in
@@ -48,11 +48,11 @@ add-longs c =
     (omega (
       arith,
       (most start).longs,
-      side-room start.args.class start.args.group _ _ _ (below at_row) (row_here at_row) (λ row. row.long) at-loop.loop.longs at-loop.loop.invariant.1.is-longs
+      side_room start.args.class start.args.group _ _ _ (below at_row) (row_here at_row) (λ row. row.long) at-loop.loop.longs at-loop.loop.invariant.1.is_longs
           at.before.before.if1.true (omega (arith, at.band-in.ensures)),
     ))
 
-add-shorts : tie.Need-overflow-add-shorts invariant-loop decreases-loop
+add-shorts : tie.Need-overflow-add-shorts invariant_loop decreases_loop
 add-shorts c =
     let at = c.before.before.before.before in
     let at_row = at.before.before.before.before in
@@ -62,34 +62,34 @@ add-shorts c =
     (omega (
       arith,
       (most start).shorts,
-      side-room start.args.class start.args.group _ _ _ (below at_row) (row_here at_row) (λ row. row.short) at-loop.loop.shorts at-loop.loop.invariant.1.is-shorts
+      side_room start.args.class start.args.group _ _ _ (below at_row) (row_here at_row) (λ row. row.short) at-loop.loop.shorts at-loop.loop.invariant.1.is_shorts
           at.before.before.if1.true (omega (arith, at.band-in.ensures)),
     ))
 
-loop-again : tie.Need-loop-preserved invariant-loop decreases-loop
+loop-again : tie.Need-loop-preserved invariant_loop decreases_loop
 loop-again c =
     let at_row = c.before.before in
     let at-loop = at_row.before.before in
     let start = at-loop.before.before.before in (
       omega arith,
       ⊎_elim
-          (λ w. rw (w.7, w.8, w.2.ensures.0) (group-next start.args.class start.args.group _ _ _ (below at_row) (row_here at_row) _ _ at-loop.loop.invariant.1 w.0.taken))
-          (λ w. rw (w.1, w.2) (group-kept start.args.class start.args.group _ _ _ (below at_row) (row_here at_row) _ _ at-loop.loop.invariant.1 w.0.left))
+          (λ w. rw (w.7, w.8, w.2.ensures.0) (group_next start.args.class start.args.group _ _ _ (below at_row) (row_here at_row) _ _ at-loop.loop.invariant.1 w.0.taken))
+          (λ w. rw (w.1, w.2) (group_kept start.args.class start.args.group _ _ _ (below at_row) (row_here at_row) _ _ at-loop.loop.invariant.1 w.0.left))
           c.if1.branch,
     )
 
-returns : tie.Need-returns invariant-loop decreases-loop
+returns : tie.Need-returns invariant_loop decreases_loop
 returns c =
     let start = c.before.before.before.before in
-    let all = take_all c.before.loop.i (partRows start.args.part.now) (rw length-map (omega (arith, c.before.before.row_count.ensures))) in
+    let all = take_all c.before.loop.i (part_rows start.args.part.now) (rw length-map (omega (arith, c.before.before.row_count.ensures))) in
     rw all at c.before.loop.invariant.1
 
-pub tally-spec : {M : Type 1} → statement M
-tally-spec =
+pub tally_spec : {M : Type 1} → statement M
+tally_spec =
     tie.close
     (tie.spec
-    invariant-loop
-    decreases-loop
+    invariant_loop
+    decreases_loop
     (λ c. search rules)
     loop-holds
     (λ c. search rules)

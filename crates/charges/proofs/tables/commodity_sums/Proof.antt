@@ -3,39 +3,39 @@ use mathlib.Core.Path.{refl}
 use Prim.Native.Nat.{◌-◌}
 use native.Mathlib.Omega.{arith}
 use borrow.Author.Rules.{rules}
-use Rattle.sums.proofs.Filling.{Filled, filled_none, filled_next, filled-all}
-use Rattle.charges.specs.Inner.Slots.{groupCount}
-use Rattle.charges.specs.Inner.Tables.{commodityAt, bandSum}
+use Rattle.sums.proofs.Filling.{Filled, filled_none, filled_next, filled_all}
+use Rattle.charges.specs.Inner.Slots.{group_count}
+use Rattle.charges.specs.Inner.Tables.{commodity_at, band_sum}
 use Rattle.charges.proofs.tables.commodity_sums.Statement.{statement}
 use Rattle.charges.proofs.tables.commodity_sums.Tie as tie
 
-abbrev invariant-loop : tie.invariant-loop
-invariant-loop table sums₀ group₀ sums group = Filled groupCount (λ g. bandSum table (commodityAt g)) sums group
+abbrev invariant_loop : tie.invariant_loop
+invariant_loop table sums₀ group₀ sums group = Filled group_count (λ g. band_sum table (commodity_at g)) sums group
 
-abbrev decreases-loop : tie.decreases-loop
-decreases-loop table sums₀ group₀ sums group = groupCount - group
+abbrev decreases_loop : tie.decreases_loop
+decreases_loop table sums₀ group₀ sums group = group_count - group
 
-loop-holds : tie.Need-loop-init invariant-loop decreases-loop
+loop-holds : tie.Need-loop-init invariant_loop decreases_loop
 loop-holds c = filled_none _ _ _ refl
 
-band-sum-requires : tie.Need-band-sum-requires invariant-loop decreases-loop
+band-sum-requires : tie.Need-band-sum-requires invariant_loop decreases_loop
 band-sum-requires c κs =
     let start = c.before.before.before in
     let test = c.before.loop-test.true in
     (omega (arith, start.requires.0, test), start.requires.1 _ test)
 
-loop-again : tie.Need-loop-preserved invariant-loop decreases-loop
-loop-again c = filled_next _ _ _ _ _ c.before.before.before.loop.invariant c.before.before.loop-test.true c.band-sum.ensures
+loop-again : tie.Need-loop-preserved invariant_loop decreases_loop
+loop-again c = filled_next _ _ _ _ _ c.before.before.before.loop.invariant c.before.before.loop-test.true c.band_sum_lem.ensures
 
-returns : tie.Need-returns invariant-loop decreases-loop
-returns c = filled-all _ _ _ _ c.before.loop.invariant c.loop-test.false
+returns : tie.Need-returns invariant_loop decreases_loop
+returns c = filled_all _ _ _ _ c.before.loop.invariant c.loop-test.false
 
-pub commodity-sums-spec : {M : Type 1} → statement M
-commodity-sums-spec =
+pub commodity_sums_spec : {M : Type 1} → statement M
+commodity_sums_spec =
     tie.close
     (tie.spec
-    invariant-loop
-    decreases-loop
+    invariant_loop
+    decreases_loop
     loop-holds
     (λ c. search rules)
     (λ c. search rules)

@@ -5,39 +5,39 @@ use native.Mathlib.Omega.{arith}
 use borrow.Author.Rules.{rules}
 use lib.Dec.{eqb}
 use lib.ListN.{get_or}
-use Rattle.charges.specs.Inner.Slots.{groupCount}
-use Rattle.charges.proofs.Columns.{counts-once}
-use Rattle.charges.proofs.Listing.{Listed, listed-none, listed_next, listed-all}
+use Rattle.charges.specs.Inner.Slots.{group_count}
+use Rattle.charges.proofs.Columns.{counts_once}
+use Rattle.charges.proofs.Listing.{Listed, listed_none, listed_next, listed_all}
 use Rattle.charges.proofs.tables.used_groups.Statement.{statement}
 use Rattle.charges.proofs.tables.used_groups.Tie as tie
 
-abbrev invariant-loop : tie.invariant-loop
-invariant-loop rows first list₀ many₀ group₀ list many group = Listed groupCount (λ g. get_or rows (first + g) 0) list many group
+abbrev invariant_loop : tie.invariant_loop
+invariant_loop rows first list₀ many₀ group₀ list many group = Listed group_count (λ g. get_or rows (first + g) 0) list many group
 
-abbrev decreases-loop : tie.decreases-loop
-decreases-loop rows first list₀ many₀ group₀ list many group = groupCount - group
+abbrev decreases_loop : tie.decreases_loop
+decreases_loop rows first list₀ many₀ group₀ list many group = group_count - group
 
-loop-holds : tie.Need-loop-init invariant-loop decreases-loop
-loop-holds c = listed-none groupCount _ _ (omega arith)
+loop-holds : tie.Need-loop-init invariant_loop decreases_loop
+loop-holds c = listed_none group_count _ _ (omega arith)
 
-add-many-2 : tie.Need-overflow-add-many-2 invariant-loop decreases-loop
+add-many-2 : tie.Need-overflow-add-many-2 invariant_loop decreases_loop
 add-many-2 c =
     let at-loop = c.before.before in
     let start = at-loop.before in
-    omega (arith, counts-once (not (eqb (get_or start.args.rows.now (start.args.first + at-loop.loop.group) 0) 0)))
+    omega (arith, counts_once (not (eqb (get_or start.args.rows.now (start.args.first + at-loop.loop.group) 0) 0)))
 
-loop-again : tie.Need-loop-preserved invariant-loop decreases-loop
-loop-again c = listed_next groupCount _ _ _ _ c.before.before.loop.invariant c.before.loop-test.true
+loop-again : tie.Need-loop-preserved invariant_loop decreases_loop
+loop-again c = listed_next group_count _ _ _ _ c.before.before.loop.invariant c.before.loop-test.true
 
-returns : tie.Need-returns invariant-loop decreases-loop
-returns c = listed-all _ _ _ _ c.before.loop.invariant c.loop-test.false
+returns : tie.Need-returns invariant_loop decreases_loop
+returns c = listed_all _ _ _ _ c.before.loop.invariant c.loop-test.false
 
-pub used-groups-spec : {M : Type 1} → statement M
-used-groups-spec =
+pub used_groups_spec : {M : Type 1} → statement M
+used_groups_spec =
     tie.close
     (tie.spec
-    invariant-loop
-    decreases-loop
+    invariant_loop
+    decreases_loop
     loop-holds
     (λ c. search rules)
     (λ c. search rules)

@@ -10,5 +10,5 @@ returns c = simp c.match.keys1
 returns-2 : tie.Need-returns-2
 returns-2 c = simp (ne_eqb c.before.args.kind 3 (λ e. omega arith))
 
-pub fixed-weight-spec : {M : Type 1} → statement M
-fixed-weight-spec = tie.close (tie.spec returns returns-2)
+pub fixed_weight_spec : {M : Type 1} → statement M
+fixed_weight_spec = tie.close (tie.spec returns returns-2)

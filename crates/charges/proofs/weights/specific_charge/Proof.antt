@@ -2,8 +2,8 @@
 use Prim.Native.Nat.{◌+◌, ◌*◌, ◌≤◌}
 use native.Mathlib.Nat.{mul-le-mul_right}
 use native.Mathlib.Omega.{arith}
-use Rattle.charges.specs.Charges.{specificOf}
-use Rattle.charges.proofs.Legs.{weight-within}
+use Rattle.charges.specs.Charges.{specific_of}
+use Rattle.charges.proofs.Legs.{weight_within}
 use borrow.Author.Rules.{rules}
 use Rattle.charges.proofs.weights.specific_charge.Statement.{statement}
 use Rattle.charges.proofs.weights.specific_charge.Tie as tie
@@ -13,7 +13,7 @@ weighed : (c : tie.After-struct-known2) → c.before.before.specific-weight.resu
     ≤ 800 * (c.before.before.before.args.row.long + c.before.before.before.args.row.short)
 weighed c =
     let start = c.before.before.before in
-    mul-le-mul_right _ (rw c.before.before.specific-weight.ensures (weight-within start.args.class start.args.row))
+    mul-le-mul_right _ (rw c.before.before.specific-weight.ensures (weight_within start.args.class start.args.row))
 
 mul-result : tie.Need-overflow-mul-result
 mul-result c = omega (arith, weighed c)
@@ -22,11 +22,11 @@ mul-result-2 : tie.Need-overflow-mul-result-2
 mul-result-2 c = omega (arith, weighed c)
 
 returns : tie.Need-returns
-unfolding specificOf
+unfolding specific_of
 returns c = rw c.before.before.specific-weight.ensures
 
-pub specific-charge-spec : {M : Type 1} → statement M
-specific-charge-spec =
+pub specific_charge_spec : {M : Type 1} → statement M
+specific_charge_spec =
     tie.close
     (tie.spec
     (λ c. search rules)

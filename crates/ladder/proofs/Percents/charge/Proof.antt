@@ -1,6 +1,6 @@
 -- `ladder::Percents::charge` meets its contract: each share is its per cent of its match, and they are summed.
 use borrow.Author.Rules.{rules}
-use Rattle.ladder.proofs.Stepping.{charge-in-steps}
+use Rattle.ladder.proofs.Stepping.{charge-in_steps}
 use Rattle.ladder.proofs.Percents.charge.Statement.{statement}
 use Rattle.ladder.proofs.Percents.charge.Tie as tie
 
@@ -9,7 +9,7 @@ returns c =
     let zone3 = c.before.before.before.before in
     let bands = zone3.before.before.before in
     let a = bands.before.args in
-    charge-in-steps a.self a.m
+    charge-in_steps a.self a.m
     bands.share.ensures.0
     zone3.before.before.share2.ensures.0
     zone3.before.share3.ensures.0
@@ -18,8 +18,8 @@ returns c =
     c.before.before.share6.ensures.0
     c.before.share7.ensures.0
 
-pub charge-spec : {M : Type 1} → statement M
-charge-spec =
+pub charge_spec : {M : Type 1} → statement M
+charge_spec =
     tie.close
     (tie.spec
     (λ c κs. search rules)

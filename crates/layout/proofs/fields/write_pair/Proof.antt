@@ -21,5 +21,5 @@ returns c =
     let bytes = c.args.first ∷ c.args.second ∷ [] in
     rw add-one (sets-eq bytes out c.args.at c.requires ∙ append_assoc (take c.args.at out) bytes (drop (c.args.at + 2) out))
 
-pub write-pair-spec : {M : Type 1} → statement M
-write-pair-spec = tie.close (tie.spec (λ c. search rules) (λ c. search rules) slice-write-out-2 (λ c. search rules) returns)
+pub write_pair_spec : {M : Type 1} → statement M
+write_pair_spec = tie.close (tie.spec (λ c. search rules) (λ c. search rules) slice-write-out-2 (λ c. search rules) returns)

@@ -1,15 +1,15 @@
 -- `market_risk_net_and_offset` meets its contract: the entries are those of the answer, and the output is the call's.
 use mathlib.Core.Path.{ap, ◌∙◌}
 use borrow.Author.Rules.{rules}
-use Rattle.market_risk.specs.Entries.{nettedEntries}
+use Rattle.market_risk.specs.Entries.{netted_entries}
 use Rattle.market_risk.proofs.writing.market_risk_net_and_offset.Statement.{statement}
 use Rattle.market_risk.proofs.writing.market_risk_net_and_offset.Tie as tie
 
 returns : tie.Need-returns
-unfolding nettedEntries
+unfolding netted_entries
 returns c =
     let answer = c.before.before.before.net-and-offset.ensures in
-    (answer.1, c.entries.ensures ∙ ap nettedEntries answer.0)
+    (answer.1, c.entries.ensures ∙ ap netted_entries answer.0)
 
-pub market-risk-net-and-offset-spec : {M : Type 1} → statement M
-market-risk-net-and-offset-spec = tie.close (tie.spec (λ c κs. search rules) (λ c κs. search rules) (λ c. search rules) returns)
+pub market_risk_net_and_offset_spec : {M : Type 1} → statement M
+market_risk_net_and_offset_spec = tie.close (tie.spec (λ c κs. search rules) (λ c κs. search rules) (λ c. search rules) returns)

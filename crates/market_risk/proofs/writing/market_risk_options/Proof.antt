@@ -5,14 +5,14 @@ use Prim.Native.Nat.{ℕ}
 use lib.ListN.{length, get_or}
 use borrow.Author.Rules.{rules}
 use Rattle.options.specs.declared.Priced.{Priced}
-use Rattle.options.specs.Options.{byClass, pricedOf}
-use Rattle.market_risk.specs.Entries.{refusalEntries, reportFigures, pricedEntries}
+use Rattle.options.specs.Options.{by_class, priced_of}
+use Rattle.market_risk.specs.Entries.{refusal_entries, report_figures, priced_entries}
 use Rattle.market_risk.proofs.writing.market_risk_options.Statement.{statement}
 use Rattle.market_risk.proofs.writing.market_risk_options.Tie as tie
 
 -- the entries one by one
-abbrev oneByOne : Priced → List ℕ
-oneByOne priced =
+abbrev one_by_one : Priced → List ℕ
+one_by_one priced =
     priced.refusal.number ∷ priced.refusal.row ∷ priced.refusal.book ∷ priced.length ∷
     get_or priced.gammas 0 0 ∷ get_or priced.gammas 1 0 ∷ get_or priced.gammas 2 0 ∷
     get_or priced.vegas 0 0 ∷ get_or priced.vegas 1 0 ∷ get_or priced.vegas 2 0 ∷
@@ -20,18 +20,18 @@ oneByOne priced =
     priced.report.equity.specific ∷ priced.report.equity.general ∷
     priced.report.exchange ∷ priced.report.commodity ∷ priced.report.total ∷ []
 
-all-entries : (table : List ℕ) (room : ℕ) → oneByOne (pricedOf table room) ≡ pricedEntries (pricedOf table room)
-unfolding byClass pricedOf refusalEntries reportFigures pricedEntries
-all-entries table room = refl
+all_entries : (table : List ℕ) (room : ℕ) → one_by_one (priced_of table room) ≡ priced_entries (priced_of table room)
+unfolding by_class priced_of refusal_entries report_figures priced_entries
+all_entries table room = refl
 
 returns : tie.Need-returns
 returns c =
     let call = c.before.before.before.before.before.before.before.before.before in
     let start = call.before.before.before.before in
-    (call.options.ensures.1, ap oneByOne call.options.ensures.0 ∙ all-entries start.args.table.now (length start.args.out.now))
+    (call.options.ensures.1, ap one_by_one call.options.ensures.0 ∙ all_entries start.args.table.now (length start.args.out.now))
 
-pub market-risk-options-spec : {M : Type 1} → statement M
-market-risk-options-spec =
+pub market_risk_options_spec : {M : Type 1} → statement M
+market_risk_options_spec =
     tie.close
     (tie.spec
     (λ c. search rules)

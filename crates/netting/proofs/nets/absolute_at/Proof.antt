@@ -5,7 +5,7 @@ use borrow.Author.Rules.{rules}
 use Rattle.ladder.specs.declared.positions.Position.{Position}
 use Rattle.ladder.specs.Position.{gross}
 use Rattle.ladder.proofs.Matching.{net-sides}
-use Rattle.amounts.specs.Inner.Standing.{positionsIn}
+use Rattle.amounts.specs.Inner.Standing.{positions_in}
 use Rattle.netting.proofs.nets.absolute_at.Statement.{statement}
 use Rattle.netting.proofs.nets.absolute_at.Tie as tie
 
@@ -16,11 +16,11 @@ add-result c =
       arith,
       ap (λ (p : Position). p.long) c.before.net-at.ensures,
       ap (λ (p : Position). p.short) c.before.net-at.ensures,
-      net-sides (positionsIn start.args.longs.now start.args.shorts.now start.args.row),
+      net-sides (positions_in start.args.longs.now start.args.shorts.now start.args.row),
     )
 
 returns : tie.Need-returns
 returns c = ap gross c.before.net-at.ensures
 
-pub absolute-at-spec : {M : Type 1} → statement M
-absolute-at-spec = tie.close (tie.spec (λ c κs. search rules) add-result returns)
+pub absolute_at_spec : {M : Type 1} → statement M
+absolute_at_spec = tie.close (tie.spec (λ c κs. search rules) add-result returns)

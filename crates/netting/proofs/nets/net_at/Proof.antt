@@ -2,16 +2,16 @@
 use mathlib.Core.Path.{ap}
 use borrow.Author.Rules.{rules}
 use Rattle.ladder.specs.declared.positions.PositionStep.{PositionStep}
-use Rattle.ladder.specs.Inner.Steps.{netStep}
+use Rattle.ladder.specs.Inner.Steps.{net_step}
 use Rattle.netting.proofs.nets.net_at.Statement.{statement}
 use Rattle.netting.proofs.nets.net_at.Tie as tie
 
 returns : tie.Need-returns
-unfolding netStep
+unfolding net_step
 returns c = ap (λ (step : PositionStep). step.left) c.before.net.ensures.is
 
-pub net-at-spec : {M : Type 1} → statement M
-net-at-spec =
+pub net_at_spec : {M : Type 1} → statement M
+net_at_spec =
     tie.close
     (tie.spec
     (λ c. search rules)

@@ -8,5 +8,5 @@ returns : tie.Need-returns
 unfolding government
 returns c = refl
 
-pub government-spec : {M : Type 1} → statement M
-government-spec = tie.close (tie.spec returns)
+pub government_spec : {M : Type 1} → statement M
+government_spec = tie.close (tie.spec returns)

@@ -5,14 +5,14 @@ use Prim.Native.Nat.{ℕ, ◌≤◌, ◌<◌}
 use borrow.Author.Rules.{rules}
 use borrow.Author.Tests.{lt-ltb, le-ltb}
 use lib.ListN.{set}
-use Rattle.offsetting.specs.Inner.Pairs.{clearedIn}
+use Rattle.offsetting.specs.Inner.Pairs.{cleared_in}
 use Rattle.offsetting.proofs.pairs.drop_pair.Statement.{statement}
 use Rattle.offsetting.proofs.pairs.drop_pair.Tie as tie
 
-kept : (row other many : ℕ) (table : List ℕ) → many ≤ other → table ≡ clearedIn row other many table
+kept : (row other many : ℕ) (table : List ℕ) → many ≤ other → table ≡ cleared_in row other many table
 kept row other many table h = rw (le-ltb other many h)
 
-cleared : (row other many : ℕ) (table : List ℕ) → other < many → set (set table row 0) other 0 ≡ clearedIn row other many table
+cleared : (row other many : ℕ) (table : List ℕ) → other < many → set (set table row 0) other 0 ≡ cleared_in row other many table
 cleared row other many table h = rw (lt-ltb other many h)
 
 returns : tie.Need-returns
@@ -25,8 +25,8 @@ returns-2 c =
       cleared start.args.row start.args.other start.args.many start.args.shorts.now c.if1.false,
     )
 
-pub drop-pair-spec : {M : Type 1} → statement M
-drop-pair-spec =
+pub drop_pair_spec : {M : Type 1} → statement M
+drop_pair_spec =
     tie.close
     (tie.spec
     returns

@@ -13,8 +13,8 @@ returns c = (sym (ap (λ (b : Bool). cond {A = ℕ} b 1 0) (sym c.before.Gives-r
 returns-2 : tie.Need-returns-2
 returns-2 c = (sym (ap (λ (b : Bool). cond {A = ℕ} b 1 0) (sym c.before.Gives-row.ensures ∙ c.if1.false)), omega arith)
 
-pub one-row-spec : {M : Type 1} → statement M
-one-row-spec =
+pub one_row_spec : {M : Type 1} → statement M
+one_row_spec =
     tie.close
     (tie.spec
     (λ c κs. search rules)

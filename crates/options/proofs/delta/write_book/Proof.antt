@@ -1,7 +1,7 @@
 -- `options::delta::write_book` meets its contract: the contents, and then the rows class by class.
 use mathlib.Core.Path.{refl}
 use native.Mathlib.Omega.{arith}
-use Rattle.options.proofs.Outcome.{all_fit, book-written}
+use Rattle.options.proofs.Outcome.{all_fit, book_written}
 use borrow.Author.Rules.{rules}
 use Rattle.options.proofs.delta.write_book.Statement.{statement}
 use Rattle.options.proofs.delta.write_book.Tie as tie
@@ -31,11 +31,11 @@ returns c =
     let equity = exchange.before.before.before.before in
     let contents = equity.before.before.before.before in
     let start = contents.before.before.before.before in
-    book-written start.requires start.args.out.now refl contents.write-contents.ensures equity.write-class.ensures exchange.write-class2.ensures
+    book_written start.requires start.args.out.now refl contents.write-contents.ensures equity.write-class.ensures exchange.write-class2.ensures
     commodity.write-class3.ensures.1
 
-pub write-book-spec : {M : Type 1} → statement M
-write-book-spec =
+pub write_book_spec : {M : Type 1} → statement M
+write_book_spec =
     tie.close
     (tie.spec
     (λ c κs. search rules)

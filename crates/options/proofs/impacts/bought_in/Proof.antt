@@ -1,7 +1,7 @@
 -- `options::impacts::bought_in` meets its contract.
 use mathlib.Core.Path.{sym}
 use borrow.Author.Tests.{eq-eqb, ne_eqb, le-leb, lt-leb}
-use Rattle.options.specs.Greeks.{isBought}
+use Rattle.options.specs.Greeks.{is_bought}
 use Rattle.options.proofs.impacts.bought_in.Statement.{statement}
 use Rattle.options.proofs.impacts.bought_in.Tie as tie
 
@@ -9,15 +9,15 @@ returns : tie.Need-returns
 returns c = sym (simp (ne_eqb _ _ c.if1.true))
 
 returns-2 : tie.Need-returns-2
-unfolding isBought
+unfolding is_bought
 returns-2 c = sym (simp (eq-eqb _ _ c.before.before.if1.false, le-leb _ _ c.if2.true))
 
 returns-3 : tie.Need-returns-3
-unfolding isBought
+unfolding is_bought
 returns-3 c = sym (simp (eq-eqb _ _ c.before.before.if1.false, lt-leb _ _ c.if2.false))
 
-pub bought-in-spec : {M : Type 1} → statement M
-bought-in-spec =
+pub bought_in_spec : {M : Type 1} → statement M
+bought_in_spec =
     tie.close
     (tie.spec
     returns

@@ -14,8 +14,8 @@ returns-2 : tie.Need-returns-2
 unfolding move_of
 returns-2 c = (sym (simp (ne_eqb _ _ c.if1.false)), omega arith)
 
-pub move-of-spec : {M : Type 1} → statement M
-move-of-spec =
+pub move_of_spec : {M : Type 1} → statement M
+move_of_spec =
     tie.close
     (tie.spec
     returns

@@ -13,8 +13,8 @@ returns-2 : tie.Need-returns-2
 unfolding allowed
 returns-2 c = sym (simp (sym c.before.sort-allowed.ensures ∙ c.if1.false))
 
-pub allowed-spec : {M : Type 1} → statement M
-allowed-spec =
+pub allowed_spec : {M : Type 1} → statement M
+allowed_spec =
     tie.close
     (tie.spec
     (λ c κs. search rules)

@@ -17,6 +17,6 @@ returns-4 c =
     let all = before-all start.args.counts 5 (omega arith) in
     record { low = omega arith; high = omega arith; from = omega (arith, c.before.rows-before3.ensures.0); to = omega (arith, start.requires) }
 
-pub class-of-spec : {M : Type 1} → statement M
-class-of-spec =
+pub class_of_spec : {M : Type 1} → statement M
+class_of_spec =
     tie.close (tie.spec (λ c κs. search rules) (λ c κs. search rules) (λ c κs. search rules) returns (λ c. search rules) (λ c. search rules) returns-4)

@@ -2,12 +2,12 @@
 use borrow.Author.Rules.{rules}
 use Rattle.sums.proofs.Cases.{as_number}
 use lib.Dec.{eqb}
-use Rattle.shortest.specs.Inner.Places.{oneIn}
+use Rattle.shortest.specs.Inner.Places.{one_in}
 use Rattle.shortest.proofs.places.one_in.Statement.{statement}
 use Rattle.shortest.proofs.places.one_in.Tie as tie
 
 returns : tie.Need-returns
-unfolding oneIn
+unfolding one_in
 returns c =
     let class = c.args.class in
     λ i. record {
@@ -17,5 +17,5 @@ returns c =
       commodity = as_number (eqb class 4) i;
     }
 
-pub one-in-spec : {M : Type 1} → statement M
-one-in-spec = tie.close (tie.spec (λ c. search rules) (λ c. search rules) (λ c. search rules) (λ c. search rules) returns)
+pub one_in_spec : {M : Type 1} → statement M
+one_in_spec = tie.close (tie.spec (λ c. search rules) (λ c. search rules) (λ c. search rules) (λ c. search rules) returns)

@@ -1,11 +1,11 @@
 -- `table::conditions::percents_hold` meets its contract: the tests are the definition's.
-use Rattle.table.specs.Loaded.{percentsHold}
+use Rattle.table.specs.Loaded.{percents_hold}
 use borrow.Author.Rules.{rules}
 use Rattle.table.proofs.conditions.percents_hold.Statement.{statement}
 use Rattle.table.proofs.conditions.percents_hold.Tie as tie
 
 returns : tie.Need-returns
-unfolding percentsHold
+unfolding percents_hold
 returns c =
     let apart = c.before.before in
     let adjacent = apart.before.before.before in
@@ -20,8 +20,8 @@ returns c =
       c.both7.ensures,
     )
 
-pub percents-hold-spec : {M : Type 1} → statement M
-percents-hold-spec =
+pub percents_hold_spec : {M : Type 1} → statement M
+percents_hold_spec =
     tie.close
     (tie.spec
     (λ c. search rules)

@@ -1,11 +1,11 @@
 -- `table::fields::read_percents` meets its contract: each per cent is its byte.
-use Rattle.table.specs.Loaded.{percentsOf}
+use Rattle.table.specs.Loaded.{percents_of}
 use borrow.Author.Rules.{rules}
 use Rattle.table.proofs.fields.read_percents.Statement.{statement}
 use Rattle.table.proofs.fields.read_percents.Tie as tie
 
 returns : tie.Need-returns
-unfolding percentsOf
+unfolding percents_of
 returns c =
     simp (
       c.before.before.before.before.before.before.before.before.before.before.wide.ensures,
@@ -16,8 +16,8 @@ returns c =
       c.wide6.ensures,
     )
 
-pub read-percents-spec : {M : Type 1} → statement M
-read-percents-spec =
+pub read_percents_spec : {M : Type 1} → statement M
+read_percents_spec =
     tie.close
     (tie.spec
     (λ c. search rules)

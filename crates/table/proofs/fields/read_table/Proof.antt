@@ -8,5 +8,5 @@ returns : tie.Need-returns
 unfolding table_of
 returns c = simp (c.before.read-weights.ensures, c.read-percents.ensures)
 
-pub read-table-spec : {M : Type 1} → statement M
-read-table-spec = tie.close (tie.spec (λ c κs. search rules) (λ c κs. search rules) returns)
+pub read_table_spec : {M : Type 1} → statement M
+read_table_spec = tie.close (tie.spec (λ c κs. search rules) (λ c κs. search rules) returns)

@@ -6,7 +6,7 @@ use borrow.Fn.Kinds.{In}
 use borrow.Fn.PlainCycle.{Measures, is, falls, and}
 use Rattle.text.specs.Lines.{decimal}
 use Rattle.text.specs.Inner.Pieces.{Wrote}
-use Rattle.text.proofs.Pieces.{one-room, wrote_one, before-room, last-room, wrote-last}
+use Rattle.text.proofs.Pieces.{one_room, wrote_one, before-room, last_room, wrote_last}
 use Rattle.text.proofs.lines.write_decimal.Reads as of
 use Rattle.text.proofs.lines.write_decimal.Kinds as kinds
 use Rattle.text.proofs.lines.+write_decimal.Lts-write_decimal as lts
@@ -26,7 +26,7 @@ asked t = and 1 kinds.ps (falls 1 kinds.ps ◌<◌ μ t) of.Pre
 slice-write-out : (t : ℕ) → lts.Need-slice-write-out (asked t, of.Post) (given t) of.Post
 slice-write-out t c =
     let start = c.before.before in
-    one-room start.args.out.now start.args.at start.args.n c.if1.true start.requires.1
+    one_room start.args.out.now start.args.at start.args.n c.if1.true start.requires.1
 
 returns : (t : ℕ) → lts.Need-returns (asked t, of.Post) (given t) of.Post
 returns t c =
@@ -53,7 +53,7 @@ before t c = c.before.before.write-decimal.ensures
 slice-write-out-2 : (t : ℕ) → lts.Need-slice-write-out-2 (asked t, of.Post) (given t) of.Post
 slice-write-out-2 t c =
     let start = c.before.before.before.before.before.before in
-    last-room start.args.out.now start.args.at start.args.n c.before.before.before.before.if1.false (fits t c) start.requires.1 (before t c)
+    last_room start.args.out.now start.args.at start.args.n c.before.before.before.before.if1.false (fits t c) start.requires.1 (before t c)
 
 add-result-2 : (t : ℕ) → lts.Need-overflow-add-result-2 (asked t, of.Post) (given t) of.Post
 add-result-2 t c = omega (arith, slice-write-out-2 t c)
@@ -61,7 +61,7 @@ add-result-2 t c = omega (arith, slice-write-out-2 t c)
 returns-2 : (t : ℕ) → lts.Need-returns-2 (asked t, of.Post) (given t) of.Post
 returns-2 t c =
     let start = c.before.before.before.before.before.before in
-    wrote-last start.args.out.now start.args.at start.args.n c.before.before.before.before.if1.false (fits t c) start.requires.1 (before t c)
+    wrote_last start.args.out.now start.args.at start.args.n c.before.before.before.before.if1.false (fits t c) start.requires.1 (before t c)
 
 pub +write-decimal-spec : {M : Type 1} → statement M
 +write-decimal-spec =

@@ -2,7 +2,7 @@
 use native.Mathlib.Omega.{arith}
 use borrow.Author.Rules.{rules}
 use Rattle.text.specs.Ascii.{ascii}
-use Rattle.text.proofs.Pieces.{digits-most, line-in-steps}
+use Rattle.text.proofs.Pieces.{digits-most, line-in_steps}
 use Rattle.text.proofs.lines.write_line.Statement.{statement}
 use Rattle.text.proofs.lines.write_line.Tie as tie
 
@@ -40,11 +40,11 @@ returns c =
     let space = number.before.before.before.before in
     let word = space.before.before.before.before.before in
     let start = word.before.before.before.before in
-    line-in-steps start.args.name.now start.args.n start.args.out.now start.args.at start.requires
+    line-in_steps start.args.name.now start.args.n start.args.out.now start.args.at start.requires
     word.write_bytes.ensures space.write-bytes2.ensures number.write-decimal.ensures end.write-bytes3.ensures
 
-pub write-line-spec : {M : Type 1} → statement M
-write-line-spec =
+pub write_line_spec : {M : Type 1} → statement M
+write_line_spec =
     tie.close
     (tie.spec
     write-bytes-requires

@@ -18,8 +18,8 @@ returns-2 c = prefix_len_of_le _ _ (simp length-append (omega arith))
 returns-3 : tie.Need-returns-3
 returns-3 c = prefix_len_of_le _ _ (simp length-append (omega arith))
 
-pub read-book-spec : {M : Type 1} → statement M
-read-book-spec =
+pub read_book_spec : {M : Type 1} → statement M
+read_book_spec =
     tie.close
     (tie.spec
     (λ c. search rules)

@@ -6,18 +6,18 @@ use lib.ListN.{length}
 use Rattle.vectors.proofs.input.repeat.Statement.{statement}
 use Rattle.vectors.proofs.input.repeat.Tie as tie
 
-abbrev invariant-loop : tie.invariant-loop
-invariant-loop row part₀ i₀ i-end part i = (i ≤ i-end) × (length part ≡ i-end) × (length part ≡ length part₀)
+abbrev invariant_loop : tie.invariant_loop
+invariant_loop row part₀ i₀ i-end part i = (i ≤ i-end) × (length part ≡ i-end) × (length part ≡ length part₀)
 
-abbrev decreases-loop : tie.decreases-loop
-decreases-loop row part₀ i₀ i-end part i = i-end - i
+abbrev decreases_loop : tie.decreases_loop
+decreases_loop row part₀ i₀ i-end part i = i-end - i
 
-pub repeat-spec : {M : Type 1} → statement M
-repeat-spec =
+pub repeat_spec : {M : Type 1} → statement M
+repeat_spec =
     tie.close
     (tie.spec
-    invariant-loop
-    decreases-loop
+    invariant_loop
+    decreases_loop
     (λ c. search rules)
     (λ c. search rules)
     (λ c. search rules)

@@ -6,18 +6,18 @@ use lib.ListN.{length}
 use Rattle.vectors.proofs.lines.checksum.Statement.{statement}
 use Rattle.vectors.proofs.lines.checksum.Tie as tie
 
-abbrev invariant-loop : tie.invariant-loop
-invariant-loop out sum₀ i₀ i-end sum i = (i ≤ i-end) × (i-end ≡ length out) × (sum < 1000000007)
+abbrev invariant_loop : tie.invariant_loop
+invariant_loop out sum₀ i₀ i-end sum i = (i ≤ i-end) × (i-end ≡ length out) × (sum < 1000000007)
 
-abbrev decreases-loop : tie.decreases-loop
-decreases-loop out sum₀ i₀ i-end sum i = i-end - i
+abbrev decreases_loop : tie.decreases_loop
+decreases_loop out sum₀ i₀ i-end sum i = i-end - i
 
-pub checksum-spec : {M : Type 1} → statement M
-checksum-spec =
+pub checksum_spec : {M : Type 1} → statement M
+checksum_spec =
     tie.close
     (tie.spec
-    invariant-loop
-    decreases-loop
+    invariant_loop
+    decreases_loop
     (λ c. search rules)
     (λ c. search rules)
     (λ c. search rules)

@@ -4,18 +4,18 @@ use borrow.Author.Rules.{rules}
 use Rattle.vectors.proofs.lines.list.Statement.{statement}
 use Rattle.vectors.proofs.lines.list.Tie as tie
 
-abbrev invariant-loop : tie.invariant-loop
-invariant-loop values currency₀ currency = currency ≤ 32
+abbrev invariant_loop : tie.invariant_loop
+invariant_loop values currency₀ currency = currency ≤ 32
 
-abbrev decreases-loop : tie.decreases-loop
-decreases-loop values currency₀ currency = 32 - currency
+abbrev decreases_loop : tie.decreases_loop
+decreases_loop values currency₀ currency = 32 - currency
 
-pub list-spec : {M : Type 1} → statement M
-list-spec =
+pub list_spec : {M : Type 1} → statement M
+list_spec =
     tie.close
     (tie.spec
-    invariant-loop
-    decreases-loop
+    invariant_loop
+    decreases_loop
     (λ c. search rules)
     (λ c. search rules)
     (λ c. search rules)

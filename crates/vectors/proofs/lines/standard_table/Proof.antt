@@ -4,18 +4,18 @@ use borrow.Author.Rules.{rules}
 use Rattle.vectors.proofs.lines.standard_table.Statement.{statement}
 use Rattle.vectors.proofs.lines.standard_table.Tie as tie
 
-abbrev invariant-loop : tie.invariant-loop
-invariant-loop table i₀ i = i ≤ 36
+abbrev invariant_loop : tie.invariant_loop
+invariant_loop table i₀ i = i ≤ 36
 
-abbrev decreases-loop : tie.decreases-loop
-decreases-loop table i₀ i = 36 - i
+abbrev decreases_loop : tie.decreases_loop
+decreases_loop table i₀ i = 36 - i
 
-pub standard-table-spec : {M : Type 1} → statement M
-standard-table-spec =
+pub standard_table_spec : {M : Type 1} → statement M
+standard_table_spec =
     tie.close
     (tie.spec
-    invariant-loop
-    decreases-loop
+    invariant_loop
+    decreases_loop
     (λ c κs. search rules)
     (λ c. search rules)
     (λ c κs. search rules)

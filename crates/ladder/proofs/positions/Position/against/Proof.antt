@@ -2,7 +2,7 @@
 use borrow.Author.Rules.{rules}
 use native.Mathlib.Omega.{arith}
 use Rattle.ladder.specs.Interest.{against, left}
-use Rattle.ladder.proofs.Matching.{same-position}
+use Rattle.ladder.proofs.Matching.{same_position}
 use Rattle.ladder.proofs.positions.Position.against.Statement.{statement}
 use Rattle.ladder.proofs.positions.Position.against.Tie as tie
 
@@ -10,13 +10,13 @@ returns : tie.Need-returns
 unfolding against left
 returns c =
     record {
-      is_one = same-position (omega arith) (omega arith);
-      is-other = same-position (omega arith) (omega arith);
-      is-matched = omega arith;
+      is_one = same_position (omega arith) (omega arith);
+      is_other = same_position (omega arith) (omega arith);
+      is_matched = omega arith;
       sums = omega arith;
     }
 
-pub against-spec : {M : Type 1} → statement M
-against-spec =
+pub against_spec : {M : Type 1} → statement M
+against_spec =
     tie.close
     (tie.spec (λ c. search rules) (λ c. search rules) (λ c. search rules) (λ c. search rules) (λ c. search rules) (λ c. search rules) (λ c. search rules) returns)

@@ -1,7 +1,7 @@
 -- `ladder::whole::Gathered::figures` meets its contract: what the zones match is within their gross.
 use native.Mathlib.Omega.{arith}
 use borrow.Author.Rules.{rules}
-use Rattle.ladder.proofs.Gathering.{combined-within, figures-in-steps}
+use Rattle.ladder.proofs.Gathering.{combined-within, figures_in_steps}
 use Rattle.ladder.proofs.whole.Gathered.figures.Statement.{statement}
 use Rattle.ladder.proofs.whole.Gathered.figures.Tie as tie
 
@@ -11,7 +11,7 @@ charge-requires c κs =
     (start.requires.0, omega (arith, start.requires.1.within, combined-within _ start.requires.1 c.combine.ensures))
 
 returns : tie.Need-returns
-returns c = figures-in-steps _ _ c.before.combine.ensures c.charge.ensures
+returns c = figures_in_steps _ _ c.before.combine.ensures c.charge.ensures
 
-pub figures-spec : {M : Type 1} → statement M
-figures-spec = tie.close (tie.spec (λ c κs. search rules) charge-requires returns)
+pub figures_spec : {M : Type 1} → statement M
+figures_spec = tie.close (tie.spec (λ c κs. search rules) charge-requires returns)

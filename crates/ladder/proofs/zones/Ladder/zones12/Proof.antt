@@ -9,5 +9,5 @@ returns : tie.Need-returns
 unfolding zones12
 returns c = record { is = cc; sums = rw c.step.ensures (omega arith) }
 
-pub zones12-spec : {M : Type 1} → statement M
-zones12-spec = tie.close (tie.spec (λ c. search rules) (λ c. search rules) returns)
+pub zones12_spec : {M : Type 1} → statement M
+zones12_spec = tie.close (tie.spec (λ c. search rules) (λ c. search rules) returns)

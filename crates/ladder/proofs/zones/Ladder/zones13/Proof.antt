@@ -9,5 +9,5 @@ returns : tie.Need-returns
 unfolding zones13
 returns c = record { is = cc; sums = rw c.step.ensures (omega arith) }
 
-pub zones13-spec : {M : Type 1} → statement M
-zones13-spec = tie.close (tie.spec (λ c. search rules) (λ c. search rules) returns)
+pub zones13_spec : {M : Type 1} → statement M
+zones13_spec = tie.close (tie.spec (λ c. search rules) (λ c. search rules) returns)

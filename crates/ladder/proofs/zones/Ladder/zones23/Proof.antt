@@ -9,5 +9,5 @@ returns : tie.Need-returns
 unfolding zones23
 returns c = record { is = cc; sums = rw c.step.ensures (omega arith) }
 
-pub zones23-spec : {M : Type 1} → statement M
-zones23-spec = tie.close (tie.spec (λ c. search rules) (λ c. search rules) returns)
+pub zones23_spec : {M : Type 1} → statement M
+zones23_spec = tie.close (tie.spec (λ c. search rules) (λ c. search rules) returns)
