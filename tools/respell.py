@@ -18,6 +18,8 @@ TOKEN = re.compile(r"[^\s(){}\[\].,;:\"`|]+")
 QUOTED = re.compile(r"`[^`\n]+`")
 GOAL = re.compile(r"\bNeed-(\S+)")
 # Definitions whose name in snake case a lemma or a function of src/ has.
+# Names of the library's that lemmas here have too.
+KEPT = {"not-false"}
 CHOSEN = {"rowCount": "count_of_rows", "twoBytes": "two_bytes_of", "fourBytes": "four_bytes_of", "turnFacts": "turning_facts"}
 
 
@@ -74,7 +76,7 @@ def table():
         new[n] = to
         taken.add(to)
     for n in sorted(names):
-        if "-" not in n or "`" in n or not n[0].isalpha() or n.endswith("-"):
+        if n in KEPT or "-" not in n or "`" in n or not n[0].isalpha() or n.endswith("-"):
             continue
         if n.endswith("-spec"):
             new[n] = n.replace("-", "_")

@@ -6,7 +6,7 @@ use mathlib.Core.List.{List, [], ◌∷◌, map}
 use Prim.Native.Nat.{ℕ, suc, ◌≤◌}
 use native.Mathlib.Omega.{arith}
 use lib.Dec.{eqb}
-use borrow.Author.Tests.{ltb-false, le-ltb, eqb-true, eqb-false, eq-eqb, not_false}
+use borrow.Author.Tests.{ltb-false, le-ltb, eqb-true, eqb-false, eq-eqb, not-false}
 use Rattle.sums.specs.Every.{Every, none, also}
 use Rattle.sums.proofs.Cases.{untaken}
 use Rattle.sums.proofs.Every.{every_flat, flat-every, every_mapped, mapped_every}
@@ -51,7 +51,7 @@ contents_sized s e =
     record {
       contents = ltb-false _ _ past1.0;
       few = ltb-false _ _ past2.0;
-      sized = eqb-true _ _ (not_false _ past3.0);
+      sized = eqb-true _ _ (not-false _ past3.0);
     }
 
 pub sized_contents : (s : List ℕ) → Sized s → contents_refusal s ≡ 0

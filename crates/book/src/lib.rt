@@ -1,4 +1,5 @@
 // The book file: its contents, its rows, why a book is refused, and the part of the file that each class is handed.
+#![tactic(auto)]
 pub mod contents;
 pub mod fields;
 pub mod limits;
@@ -21,7 +22,7 @@ pub const MOST_ROWS: usize = 4000;
 pub const LAST_GROUP: u8 = 31;
 
 // One leg: 16 bytes of the file.
-#[derive(Drop)]
+#[derive(Clone, Copy)]
 pub struct Row {
     pub group: u8,
     pub kind: u8,
@@ -33,7 +34,7 @@ pub struct Row {
 }
 
 // Why a book is refused, at which row of the file, and in join of which book; all zero where it is accepted.
-#[derive(Drop)]
+#[derive(Clone, Copy)]
 pub struct Refusal {
     pub number: u8,
     pub row: u16,
@@ -41,7 +42,7 @@ pub struct Refusal {
 }
 
 // The contents: the rows of each class.
-#[derive(Drop)]
+#[derive(Clone, Copy)]
 pub struct Counts {
     pub interest: u16,
     pub equity: u16,
@@ -50,14 +51,14 @@ pub struct Counts {
 }
 
 // A book that was checked: its refusal, and its counts; no rows where it is refused.
-#[derive(Drop)]
+#[derive(Clone, Copy)]
 pub struct Checked {
     pub refusal: Refusal,
     pub counts: Counts,
 }
 
 // Where the part of a class lies in a book; both 0 where it is refused or the number is no class.
-#[derive(Drop)]
+#[derive(Clone, Copy)]
 pub struct Handed {
     pub refusal: Refusal,
     pub start: usize,

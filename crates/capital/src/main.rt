@@ -1,4 +1,5 @@
 // Reads a book from standard input and prints its six charges and their total in mils, by document 01's table, or why it is refused.
+#![tactic(auto)]
 use libc::{STDIN_FILENO, STDOUT_FILENO};
 use text::MOST_TEXT;
 

@@ -1,4 +1,5 @@
 // The charges of a book: its report, and the ladder of one currency or commodity.
+#![tactic(auto)]
 mod adding;
 mod bands;
 mod general;
@@ -19,7 +20,7 @@ use book::{Checked, LAST_GROUP, Refusal};
 use ladder::{BANDS, CommodityFigures, InterestFigures};
 
 // The two parts of a class's charge.
-#[derive(Drop)]
+#[derive(Clone, Copy)]
 pub struct Risk {
     pub specific: u64,
     pub general: u64,
@@ -27,7 +28,7 @@ pub struct Risk {
 
 // The report of a book, in mils, how many rows were taken for it, and the specific and the general interest charge of each currency; all zero
 // but the refusal where it is refused.
-#[derive(Drop)]
+#[derive(Clone, Copy)]
 pub struct Report {
     pub refusal: Refusal,
     pub interest: Risk,
@@ -41,21 +42,21 @@ pub struct Report {
 }
 
 // The interest ladder of one currency, in weighted positions, and its charge in mils.
-#[derive(Drop)]
+#[derive(Clone, Copy)]
 pub struct InterestLadder {
     pub refusal: Refusal,
     pub figures: InterestFigures,
 }
 
 // The ladder of one commodity, in amount units, and its charge in mils.
-#[derive(Drop)]
+#[derive(Clone, Copy)]
 pub struct CommodityLadder {
     pub refusal: Refusal,
     pub figures: CommodityFigures,
 }
 
 // The sums of one group of a class for its ladder, longs and shorts by band; all zero but the refusal where it is refused.
-#[derive(Drop)]
+#[derive(Clone, Copy)]
 pub struct LadderSums {
     pub refusal: Refusal,
     pub longs: [u64; BANDS],
@@ -63,7 +64,7 @@ pub struct LadderSums {
 }
 
 // The figures of a bank with foreign exchange and commodities alone, in mils; all zero but the refusal where it is refused.
-#[derive(Drop)]
+#[derive(Clone, Copy)]
 pub struct SmallBank {
     pub refusal: Refusal,
     pub exchange: u64,

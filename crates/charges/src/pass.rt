@@ -14,7 +14,7 @@ use crate::{adding, bands};
 use book::{CONTENTS_SIZE, Counts, ROW_SIZE, Refusal, Row};
 
 // What a pass found: the first refusal, and the rows taken, none where there is one.
-#[derive(Drop)]
+#[derive(Clone, Copy)]
 pub struct Taken {
     pub refusal: Refusal,
     pub rows: usize,

@@ -13,7 +13,7 @@ use crate::slots::{COMMODITY, GROUP_SLOTS, GROUPS, SLOTS};
 use ladder::{BANDS, COMMODITY_BANDS};
 
 // Some groups of a class, at the front of the list, and how many they are.
-#[derive(Drop)]
+#[derive(Clone, Copy)]
 pub struct Used {
     pub list: [usize; GROUPS + 1],
     pub many: usize,

@@ -1,4 +1,5 @@
 // Writes the dearest book of so many rows of at most an amount each into an output that the caller lends.
+#![tactic(auto)]
 ghost use Rattle.std.specs.Prelude.{◌≡◌, ◌++◌, ◌+◌, ◌*◌, ◌≤◌, length as len};
 ghost use Rattle.book.specs.Counts.{contents_size, row_size};
 ghost use Rattle.book.specs.Refusals.{most_rows, most_amount};
@@ -15,7 +16,7 @@ const MOST_AMOUNT: u64 = 1_000_000_000;
 const DEAREST_UNIT: u64 = 205_000;
 
 // Why the call is refused, all zero where it is not; the length of the book and its total, 0 where it is refused.
-#[derive(Drop)]
+#[derive(Clone, Copy)]
 pub struct Costed {
     pub refusal: Refusal,
     pub length: usize,

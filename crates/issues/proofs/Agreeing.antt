@@ -40,9 +40,9 @@ same_terms_lem a b same =
     )
 
 -- ---- 13
-not_false : (test : Bool) → not test ≡ false → test ≡ true
-not_false true e = refl
-not_false false e = absurd (true≢false e)
+not-false : (test : Bool) → not test ≡ false → test ≡ true
+not-false true e = refl
+not-false false e = absurd (true≢false e)
 
 -- two rows that do not differ from the first of their issue do not differ from one another
 like_first : (rows : List Row) (a b : Row) → Memᴰ a rows → a.issue ≡ b.issue → unlike_first rows a ≡ false → unlike_first rows b ≡ false → SameTerms a b
@@ -51,8 +51,8 @@ like_first (first ∷ rows) a b member e like-a like-b = go (ℕ_discrete first.
   where
     go : Dec (first.issue ≡ a.issue) → Memᴰ a (first ∷ rows) → (Memᴰ a rows → unlike_first rows a ≡ false → unlike_first rows b ≡ false → SameTerms a b) → SameTerms a b
     go (yes own) m later =
-        let of_a = terms_same first a (not_false _ (rw (eq-eqb first.issue a.issue own) at like-a)) in
-        let of_b = terms_same first b (not_false _ (rw (eq-eqb first.issue b.issue (own ∙ e)) at like-b)) in
+        let of_a = terms_same first a (not-false _ (rw (eq-eqb first.issue a.issue own) at like-a)) in
+        let of_b = terms_same first b (not-false _ (rw (eq-eqb first.issue b.issue (own ∙ e)) at like-b)) in
         record {
           group = sym of_a.group ∙ of_b.group;
           kind = sym of_a.kind ∙ of_b.kind;

@@ -7,7 +7,7 @@ use Prim.Native.Nat.{ℕ, ◌+◌, ◌*◌, ◌≤◌}
 use native.Mathlib.Omega.{arith}
 use lib.ListN.{length}
 use lib.Dec.{ltb, eqb}
-use borrow.Author.Tests.{eqb-true, eqb-false, not_false, ltb-false, le-ltb}
+use borrow.Author.Tests.{eqb-true, eqb-false, not-false, ltb-false, le-ltb}
 use Rattle.sums.proofs.Cases.{cond_else}
 use Rattle.book.specs.declared.Counts.{Counts}
 use Rattle.book.specs.declared.Refusal.{Refusal}
@@ -49,7 +49,7 @@ settled_same : (x y : Refusal) (rows size rows' size' room : ℕ)
 unfolding settled
 settled_same x y rows size rows' size' room same =
     cond_else _ _ _ _ (λ p. cond_else _ _ _ _ (λ q.
-    let both = same (eqb-true _ _ (not_false _ p)) (eqb-true _ _ (not_false _ q)) in
+    let both = same (eqb-true _ _ (not-false _ p)) (eqb-true _ _ (not-false _ q)) in
     rw (both.0, both.1)))
 
 -- what is settled by what was read is the refusal of the join

@@ -1,4 +1,5 @@
 // Joins two books into an output that the caller lends.
+#![tactic(auto)]
 mod bodies;
 mod counts;
 
@@ -8,7 +9,7 @@ ghost use Rattle.join.specs.Joined.{in_book, settled, joined_of, join_output};
 use book::{CONTENTS_SIZE, MOST_ROWS, ROW_SIZE, Refusal};
 
 // Why a join is refused, all zero where it is not, and the joined length, 0 where it is refused.
-#[derive(Drop)]
+#[derive(Clone, Copy)]
 pub struct Joined {
     pub refusal: Refusal,
     pub length: usize,

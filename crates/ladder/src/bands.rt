@@ -7,7 +7,7 @@ ghost use Rattle.ladder.specs.Inner.Steps.{limit, bands, ZoneOf, ZoneWith};
 use crate::positions::Position;
 
 // The bands of a zone: their gross, what they match within themselves, and their nets put together.
-#[derive(Drop)]
+#[derive(Clone, Copy)]
 pub struct Zone {
     pub gross: u64,
     pub vertical: u64,

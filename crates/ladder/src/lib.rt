@@ -1,4 +1,5 @@
 // The ladders of one group, and charges on nets: longs against shorts. Knows no file.
+#![tactic(auto)]
 pub mod bands;
 pub mod positions;
 pub mod whole;
@@ -22,7 +23,7 @@ pub const BANDS: usize = 15;
 pub const COMMODITY_BANDS: usize = 7;
 
 // The per cents of the interest ladder's steps: adjacent zones are 1-2 and 2-3, zones apart 1-3.
-#[derive(Drop)]
+#[derive(Clone, Copy)]
 pub struct Percents {
     pub vertical: u64,
     pub zone1: u64,
@@ -33,21 +34,21 @@ pub struct Percents {
 }
 
 // The table of the interest ladder: a weight for each band, in basis points, and the per cents of the steps.
-#[derive(Drop)]
+#[derive(Clone, Copy)]
 pub struct Table {
     pub weights: [u64; BANDS],
     pub percents: Percents,
 }
 
 // The figures of the interest ladder call; the charge in mils.
-#[derive(Drop)]
+#[derive(Clone, Copy)]
 pub struct InterestFigures {
     pub matches: Matches,
     pub charge: u64,
 }
 
 // The figures of the commodity ladder call, in amount units; the charge in mils.
-#[derive(Drop)]
+#[derive(Clone, Copy)]
 pub struct CommodityFigures {
     pub matches: u64,
     pub carried: u64,

@@ -3,21 +3,21 @@ ghost use Rattle.std.specs.Prelude.{◌≡◌, ◌+◌, ◌≤◌, min};
 ghost use Rattle.ladder.specs.Position.{◌⊕◌, gross};
 ghost use Rattle.ladder.specs.Inner.Steps.{limit, NetStep, net_step, band_step, carried_step, Offsets};
 
-#[derive(Drop)]
+#[derive(Clone, Copy)]
 pub struct Position {
     pub long: u64,
     pub short: u64,
 }
 
 // What a step leaves, and its match.
-#[derive(Drop)]
+#[derive(Clone, Copy)]
 pub struct PositionStep {
     pub left: Position,
     pub matched: u64,
 }
 
 // What two positions match against one another, and what is left of each.
-#[derive(Drop)]
+#[derive(Clone, Copy)]
 pub struct Offset {
     pub one: Position,
     pub other: Position,

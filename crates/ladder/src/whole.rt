@@ -10,7 +10,7 @@ use crate::positions::Position;
 use crate::{BANDS, InterestFigures, Percents, bands, zones};
 
 // The three zones of an interest ladder, the bands of each gathered.
-#[derive(Drop)]
+#[derive(Clone, Copy)]
 pub struct Gathered {
     pub first: Zone,
     pub second: Zone,

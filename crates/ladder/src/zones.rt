@@ -8,7 +8,7 @@ use crate::bands::Zone;
 use crate::positions::Position;
 
 // What is left of each zone.
-#[derive(Drop)]
+#[derive(Clone, Copy)]
 pub struct Ladder {
     pub zone1: Position,
     pub zone2: Position,
@@ -16,14 +16,14 @@ pub struct Ladder {
 }
 
 // What a step leaves of the zones, and its match.
-#[derive(Drop)]
+#[derive(Clone, Copy)]
 pub struct LadderStep {
     pub left: Ladder,
     pub matched: u64,
 }
 
 // What step 2 leaves of the zones, and its match in each.
-#[derive(Drop)]
+#[derive(Clone, Copy)]
 pub struct ZonesStep {
     pub left: Ladder,
     pub zone1: u64,
@@ -32,7 +32,7 @@ pub struct ZonesStep {
 }
 
 // What the zones match against one another, and the residual.
-#[derive(Drop)]
+#[derive(Clone, Copy)]
 pub struct Crossing {
     pub zones12: u64,
     pub zones23: u64,
@@ -41,7 +41,7 @@ pub struct Crossing {
 }
 
 // The sums of a ladder: gross, the match of each step, and the residual.
-#[derive(Drop)]
+#[derive(Clone, Copy)]
 pub struct Matches {
     pub gross: u64,
     pub vertical: u64,

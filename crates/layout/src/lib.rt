@@ -1,4 +1,5 @@
 // The bytes of a book written into an output that the caller lends.
+#![tactic(auto)]
 pub mod contents;
 pub mod fields;
 
@@ -8,7 +9,7 @@ ghost use Rattle.layout.specs.Written.{written};
 use book::Refusal;
 
 // Why a call that writes a book is refused, all zero where it is not; and the length of what is written, 0 where it is refused.
-#[derive(Drop)]
+#[derive(Clone, Copy)]
 pub struct Written {
     pub refusal: Refusal,
     pub length: usize,

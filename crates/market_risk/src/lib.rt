@@ -1,4 +1,5 @@
 // The calls for programs in other languages: each writes every entry of its result.
+#![tactic(auto)]
 mod writing;
 
 ghost use Rattle.std.specs.Prelude.{◌≡◌, ◌+◌, ◌≤◌, length as len};

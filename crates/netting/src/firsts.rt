@@ -8,7 +8,7 @@ ghost use Rattle.netting.specs.Inner.Places.{place_of, FirstRowFound};
 use book::{MOST_ROWS, Row};
 
 // The place of a row's amounts, how many issues are kept with its own, and the comparisons made.
-#[derive(Drop)]
+#[derive(Clone, Copy)]
 pub struct FirstRow {
     pub at: usize,
     pub kept: usize,
@@ -16,7 +16,7 @@ pub struct FirstRow {
 }
 
 // The place of an issue number among the kept, or how many there are, and the comparisons made.
-#[derive(Drop)]
+#[derive(Clone, Copy)]
 struct Place {
     at: usize,
     compared: usize,

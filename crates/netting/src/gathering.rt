@@ -10,14 +10,14 @@ use crate::firsts;
 use book::{Counts, MOST_ROWS, Refusal};
 
 // What a class gave: the place of the first row that differs, or the number of rows; and the comparisons made.
-#[derive(Drop)]
+#[derive(Clone, Copy)]
 struct ClassSums {
     row: usize,
     compared: usize,
 }
 
 // What a book gave: 13 with its row, or all zero; and the comparisons made.
-#[derive(Drop)]
+#[derive(Clone, Copy)]
 pub struct BookSums {
     pub refusal: Refusal,
     pub compared: usize,

@@ -1,4 +1,5 @@
 // Nets the issues of a book into an output that the caller lends.
+#![tactic(auto)]
 mod firsts;
 pub mod gathering;
 mod nets;
@@ -14,7 +15,7 @@ use crate::gathering::BookSums;
 use book::{Counts, MOST_ROWS, Refusal};
 
 // Why a call that nets is refused, all zero where it is not; the length of what is written and the comparisons made, 0 where it is refused.
-#[derive(Drop)]
+#[derive(Clone, Copy)]
 pub struct Netted {
     pub refusal: Refusal,
     pub length: usize,

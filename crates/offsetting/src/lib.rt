@@ -1,4 +1,5 @@
 // Drops the swap legs of a book that fit each other, as it is or when its issues are netted, into an output that the caller lends.
+#![tactic(auto)]
 mod fitting;
 mod pairs;
 

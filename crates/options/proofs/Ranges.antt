@@ -6,7 +6,7 @@ use mathlib.Core.List.{List, [], ◌∷◌}
 use Prim.Native.Nat.{ℕ, zero, suc, ◌+◌, ◌*◌, ◌≤◌}
 use native.Mathlib.Omega.{arith}
 use lib.ListN.{length, length-map}
-use borrow.Author.Tests.{leb-true, le-leb, ltb-false, le-ltb, eqb-true, eq-eqb, not_false}
+use borrow.Author.Tests.{leb-true, le-leb, ltb-false, le-ltb, eqb-true, eq-eqb, not-false}
 use Rattle.sums.specs.Sums.{span}
 use Rattle.sums.specs.Every.{Every, none, also}
 use Rattle.sums.proofs.Cases.{neither, both}
@@ -84,7 +84,7 @@ unfolding length_refused
 table_sized s e =
     let parts = neither _ _ e in
     let later = neither _ _ parts.1 in
-    record { counted = ltb-false _ _ parts.0; few = ltb-false _ _ later.0; sized = eqb-true _ _ (not_false _ later.1) }
+    record { counted = ltb-false _ _ parts.0; few = ltb-false _ _ later.0; sized = eqb-true _ _ (not-false _ later.1) }
 
 sized_table : (s : List ℕ) → TableSized s → length_refused s ≡ false
 unfolding length_refused

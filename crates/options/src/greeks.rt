@@ -18,7 +18,7 @@ const GROUPS: usize = 32;
 const QUARTER_SHIFT: u64 = 2500;
 
 // The sums of a class by group.
-#[derive(Drop)]
+#[derive(Clone, Copy)]
 struct Sides {
     bought: [u64; GROUPS],
     sold: [u64; GROUPS],

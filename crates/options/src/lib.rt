@@ -1,4 +1,5 @@
 // Options by the delta-plus method: reads an option table, writes the book of its deltas, and charges gamma and vega.
+#![tactic(auto)]
 mod delta;
 mod greeks;
 mod impacts;
@@ -12,7 +13,7 @@ use book::{CONTENTS_SIZE, ROW_SIZE, Refusal};
 use charges::Report;
 
 // One option: eighteen bytes of the table.
-#[derive(Drop)]
+#[derive(Clone, Copy)]
 pub struct OptionRow {
     pub class: u8,
     pub group: u8,
@@ -28,7 +29,7 @@ pub struct OptionRow {
 
 // Why the call is refused, all zero where it is not; the length of the book, gamma and vega of equity, foreign exchange and commodities, and the
 // report of the book; all figures are 0 where it is refused.
-#[derive(Drop)]
+#[derive(Clone, Copy)]
 pub struct Priced {
     pub refusal: Refusal,
     pub length: usize,

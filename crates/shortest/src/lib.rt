@@ -1,4 +1,5 @@
 // From a refused book writes the shortest file that is refused with the same number, into an output that the caller lends.
+#![tactic(auto)]
 mod places;
 
 ghost use Rattle.std.specs.Prelude.{◌≡◌, ◌≤◌, ◌<◌, length as len};
@@ -10,7 +11,7 @@ use book::{CONTENTS_SIZE, ROW_SIZE, Refusal};
 
 // Why the call is refused, all zero where it is not; the length of what is written, 0 where it is refused; and whether the book is accepted,
 // so that nothing is written.
-#[derive(Drop)]
+#[derive(Clone, Copy)]
 pub struct Shown {
     pub refusal: Refusal,
     pub length: usize,

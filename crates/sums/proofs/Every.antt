@@ -27,6 +27,7 @@ module _ {A : Type 0} {P : A → Type 0} where
   pub every_member : {l : List A} → Every P l → (a : A) → Memᴰ a l → P a
   every_member (also p rest) a (Memᴰ.head own) = rw own p
   every_member (also p rest) a (Memᴰ.tail later) = every_member rest a later
+  every_member none a x3 = elim x3 [ ]
 
   pub member_every : (l : List A) → ((a : A) → Memᴰ a l → P a) → Every P l
   member_every [] h = none

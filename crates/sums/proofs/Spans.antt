@@ -24,6 +24,7 @@ pub in_span : (k start n : ℕ) → Memᴰ k (span start n) → (start ≤ k) ×
 unfolding span
 in_span k start (suc n) (Memᴰ.head own) = omega arith
 in_span k start (suc n) (Memᴰ.tail later) = omega (arith, in_span k (suc start) n later)
+in_span k start zero x' = elim x' [ ]
 
 -- a sum over the numbers from 1 on, one less each
 pub sum_shift : (f : ℕ → ℕ) (start n : ℕ) → sum_of f (span (suc start) n) ≡ sum_of (λ k. f (suc k)) (span start n)

@@ -1,1 +1,2 @@
 // Swap legs that fit each other, and the rows without such pairs: specs/ defines them, proofs/ has their laws.
+#![tactic(auto)]

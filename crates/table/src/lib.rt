@@ -1,4 +1,5 @@
 // A ladder table as 36 bytes: fifteen weights of two bytes, low byte first, and six per cents of a byte each.
+#![tactic(auto)]
 mod conditions;
 mod fields;
 
@@ -24,7 +25,7 @@ pub fn standard() -> [u8; SIZE]
 }
 
 // A table, and 0; or why it is refused.
-#[derive(Drop)]
+#[derive(Clone, Copy)]
 pub struct Loaded {
     pub number: u8,
     pub table: Table,

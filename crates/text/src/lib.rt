@@ -1,4 +1,5 @@
 // The text of a report, as the program prints it, in a buffer that the caller lends.
+#![tactic(auto)]
 mod lines;
 
 ghost use Rattle.std.specs.Prelude.{◌≡◌, ◌≤◌, length};

@@ -1,4 +1,5 @@
 // The trade that brings a currency under its limit: the least amount that, added to a side of a band, brings its charge within it.
+#![tactic(auto)]
 mod search;
 
 ghost use Rattle.std.specs.Prelude.{◌≡◌};
@@ -11,14 +12,14 @@ use book::Refusal;
 const LAST_BAND: usize = 14;
 
 // The least amount, in thousands, if there is one; else 0.
-#[derive(Drop)]
+#[derive(Clone, Copy)]
 pub struct Least {
     pub found: bool,
     pub amount: u64,
 }
 
 // Why the call is refused, all zero where it is not, and the least amount, none where it is refused.
-#[derive(Drop)]
+#[derive(Clone, Copy)]
 pub struct Trade {
     pub refusal: Refusal,
     pub least: Least,

@@ -14,7 +14,7 @@ use ladder::{BANDS, Percents, Table, whole};
 const MOST_TRADE: u64 = 1_000_000;
 
 // The zones without the open band, what stands in the band, weighted, and the side and weight of what is added there.
-#[derive(Drop)]
+#[derive(Clone, Copy)]
 pub struct Open {
     pub zones: Gathered,
     pub own: Position,

@@ -1,5 +1,6 @@
 // Reads calls with their books from standard input, makes each call and writes a line with every figure that it gives.
 // The stream and the lines are those of docs/VECTORS.md. A stream that breaks off is read as if zeros followed, and 0 is its end.
+#![tactic(auto)]
 mod input;
 mod lines;
 

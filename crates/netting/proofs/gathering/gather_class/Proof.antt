@@ -5,7 +5,7 @@ use mathlib.Core.List.{List}
 use Prim.Native.Nat.{ℕ, ◌+◌, ◌-◌, ◌*◌, ◌≤◌, ◌<◌}
 use native.Mathlib.Omega.{arith}
 use borrow.Author.Rules.{rules}
-use borrow.Author.Tests.{not-true, not_false}
+use borrow.Author.Tests.{not-true, not-false}
 use lib.ListN.{length, get_or, length-map, length-replicate}
 use Rattle.sums.specs.Every.{Every}
 use Rattle.sums.proofs.Every.{every_implied}
@@ -141,7 +141,7 @@ loop-again c =
     let at = c.before.before.before.before.before.before.before.before in
     let test = tested at c.before.before.before.before.before.before.same_terms_lem.ensures c.before.before.before.before.before.before.before.row-at2.ensures in
     adds_next _ _ _ _ (can at) (now at) (there at) (leg at) (is_leg at) at.first-row.ensures
-    (sym test ∙ not_false _ c.before.before.before.before.before.if2.false) c.before.before.before.add.ensures c.before.add2.ensures
+    (sym test ∙ not-false _ c.before.before.before.before.before.if2.false) c.before.before.before.add.ensures c.before.add2.ensures
 
 returns-2 : tie.Need-returns-2 invariant_loop decreases_loop
 returns-2 c =

@@ -4,7 +4,7 @@ use mathlib.Core.Bool.{true, false}
 use Prim.Native.Nat.{◌<◌, ◌≤◌, min}
 use native.Mathlib.Omega.{arith}
 use borrow.Author.Rules.{rules}
-use borrow.Author.Tests.{eq-eqb, ne_eqb, le-leb, lt-leb, not-true, not_false}
+use borrow.Author.Tests.{eq-eqb, ne_eqb, le-leb, lt-leb, not-true, not-false}
 use lib.Dec.{leb}
 use Rattle.book.specs.declared.Row.{Row}
 use Rattle.swaps.specs.Fitting.{apart, most_coupons_apart, most_days_apart, government, near}
@@ -38,11 +38,11 @@ module _ (a b : Row) where
 -- what each test found, for those after it
 module _ (c : tie.Else1) where
   first-is : government c.before.before.args.a ≡ true
-  first-is = sym c.before.government.ensures ∙ not_false _ c.if1.false
+  first-is = sym c.before.government.ensures ∙ not-false _ c.if1.false
 
 module _ (c : tie.Else2) where
   second_is : government c.before.before.before.before.args.b ≡ true
-  second_is = sym c.before.government2.ensures ∙ not_false _ c.if2.false
+  second_is = sym c.before.government2.ensures ∙ not-false _ c.if2.false
 
 returns : tie.Need-returns
 returns c = by_first _ _ (sym c.before.government.ensures ∙ not-true _ c.if1.true)

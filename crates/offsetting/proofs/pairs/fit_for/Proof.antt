@@ -6,7 +6,7 @@ use Prim.Native.Nat.{ℕ, suc, ◌+◌, ◌<◌}
 use native.Mathlib.Numerals.{add-one}
 use native.Mathlib.Omega.{arith}
 use borrow.Author.Rules.{rules}
-use borrow.Author.Tests.{not-true, not_false}
+use borrow.Author.Tests.{not-true, not-false}
 use lib.Dec.{eqb}
 use lib.ListN.{length, get_or, drop, length-drop}
 use Rattle.book.specs.declared.Row.{Row}
@@ -26,7 +26,7 @@ module _ (rows : List Row) (f : Bands) (row : ℕ) where
   -- it was dropped
   by_gone : is_left (f row) ≡ false → length rows ≡ fit_for rows f row
   unfolding fit_for
-  by_gone none = rw (not_false (eqb (gross (f row)) 0) none)
+  by_gone none = rw (not-false (eqb (gross (f row)) 0) none)
 
   module _ (some : is_left (f row) ≡ true) where
     searched : fit_for rows f row ≡ fit_from (leg_at rows f row) f (suc row) (drop (suc row) rows)
@@ -51,14 +51,14 @@ returns c = many-rows _ c.row_count.ensures ∙ by_gone _ _ _ (sym (left_is c.be
 returns-2 : tie.Need-returns-2
 returns-2 c =
     let there = c.before.before.before.before in
-    let some = sym (left_is there.before) ∙ not_false _ there.if1.false in
+    let some = sym (left_is there.before) ∙ not-false _ there.if1.false in
     let other = sym (c.before.before.government.ensures ∙ ap government (c.before.before.before.row_at.ensures ∙ row_is _ _)) ∙ not-true _ c.before.if2.true in
     many-rows _ c.row-count2.ensures ∙ by_kind _ _ _ some there.before.before.before.before.requires.0 other
 
 returns-3 : tie.Need-returns-3
 returns-3 c =
     let there = c.before.before.before.before in
-    let some = sym (left_is there.before) ∙ not_false _ there.if1.false in
+    let some = sym (left_is there.before) ∙ not-false _ there.if1.false in
     by_search _ _ _ some (c.before.before.before.row_at.ensures ∙ row_is _ _) there.before.before.amounts-at.ensures c.first-fit.ensures
 
 pub fit_for_spec : {M : Type 1} → statement M

@@ -2,7 +2,7 @@
 use mathlib.Core.Path.{sym, ap, ◌∙◌}
 use Prim.Native.Nat.{◌-◌}
 use native.Mathlib.Omega.{arith}
-use borrow.Author.Tests.{not-true, not_false}
+use borrow.Author.Tests.{not-true, not-false}
 use Rattle.options.specs.Refusals.{allowed}
 use Rattle.options.proofs.Walking.{Passed, none_passed, one_passed, one_outside, all_passed}
 use borrow.Author.Rules.{rules}
@@ -41,7 +41,7 @@ loop-less c = omega arith
 loop-again : tie.Need-loop-preserved invariant_loop decreases_loop
 loop-again c =
     let rows = c.before.before in
-    let passes = ap allowed (sym rows.option-at.ensures) ∙ sym c.before.allowed.ensures ∙ not_false _ c.if1.false in
+    let passes = ap allowed (sym rows.option-at.ensures) ∙ sym c.before.allowed.ensures ∙ not-false _ c.if1.false in
     one_passed _ _ rows.before.before.loop.invariant (omega arith) passes
 
 returns-2 : tie.Need-returns-2 invariant_loop decreases_loop
