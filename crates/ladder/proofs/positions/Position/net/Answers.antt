@@ -5,12 +5,8 @@ use Rattle.ladder.specs.Position.{matched, net}
 use Rattle.ladder.specs.Inner.Steps.{net_step}
 use Rattle.ladder.proofs.Matching.{same_position}
 use Rattle.ladder.proofs.Stepping.{same_step}
-use Rattle.ladder.proofs.positions.Position.net.Statement.{statement}
-use Rattle.ladder.proofs.positions.Position.net.Tie as tie
+use Rattle.ladder.proofs.positions.Position.net.Goals as goal
 
-returns : tie.Need-returns
+pub returns : goal.returns
 unfolding matched net net_step
 returns c = record { is = same_step (same_position (omega arith) (omega arith)) (omega arith); sums = omega arith }
-
-pub net_spec : {M : Type 1} → statement M
-net_spec = tie.close (tie.spec (λ c κs. search rules) (λ c. search rules) (λ c. search rules) returns)

@@ -3,10 +3,9 @@ use borrow.Author.Rules.{rules}
 use native.Mathlib.Omega.{arith}
 use Rattle.ladder.specs.Interest.{against, left}
 use Rattle.ladder.proofs.Matching.{same_position}
-use Rattle.ladder.proofs.positions.Position.against.Statement.{statement}
-use Rattle.ladder.proofs.positions.Position.against.Tie as tie
+use Rattle.ladder.proofs.positions.Position.against.Goals as goal
 
-returns : tie.Need-returns
+pub returns : goal.returns
 unfolding against left
 returns c =
     record {
@@ -15,8 +14,3 @@ returns c =
       is_matched = omega arith;
       sums = omega arith;
     }
-
-pub against_spec : {M : Type 1} → statement M
-against_spec =
-    tie.close
-    (tie.spec (λ c. search rules) (λ c. search rules) (λ c. search rules) (λ c. search rules) (λ c. search rules) (λ c. search rules) (λ c. search rules) returns)

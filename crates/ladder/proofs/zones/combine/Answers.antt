@@ -1,0 +1,7 @@
+-- `ladder::zones::combine` meets its contract: each zone within itself, and then the zones against one another.
+use borrow.Author.Rules.{rules}
+use Rattle.ladder.proofs.Stepping.{combine_in_steps}
+use Rattle.ladder.proofs.zones.combine.Goals as goal
+
+pub returns : goal.returns
+returns c = combine_in_steps _ _ _ c.within-step.ensures.is c.cross-crossing.ensures
