@@ -130,6 +130,7 @@ some_member : {left rows : List Row} → Sublistᴰ left rows → (row : Row) �
 some_member (Sublistᴰ.cons part) row member = Memᴰ.tail (some_member part row member)
 some_member (Sublistᴰ.cons-cons e part) row (Memᴰ.head own) = Memᴰ.head (own ∙ e)
 some_member (Sublistᴰ.cons-cons e part) row (Memᴰ.tail later) = Memᴰ.tail (some_member part row later)
+some_member Sublistᴰ.slnil row member = elim member [ ]
 
 pub some_can : (rows : List Row) → CanBeNetted rows → {left : List Row} → Sublistᴰ left (netted_rows rows) → CanBeNetted left
 some_can rows can {left} part =

@@ -64,6 +64,7 @@ like_first (first ∷ rows) a b member e like-a like-b = go (ℕ_discrete first.
         later m
         (rw (ne_eqb first.issue a.issue other) at like-a)
         (rw (ne_eqb first.issue b.issue (λ own. other (own ∙ sym e))) at like-b)
+like_first [] a b member e like-a like-b = elim member [ ]
 
 first-like : (rows : List Row) (row : Row) → ((first : Row) → Memᴰ first rows → first.issue ≡ row.issue → SameTerms first row) → unlike_first rows row ≡ false
 unfolding unlike_first

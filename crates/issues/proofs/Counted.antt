@@ -1,7 +1,7 @@
 -- What rows count for, by whatever depends on their bytes 0 to 7 alone: a net in the place of a row, and one issue taken out of the netted rows.
 -- Assumes nothing.
 use Prim.Native.Nat.{ℕ, ◌+◌, ◌*◌}
-use mathlib.Core.Path.{◌≡◌, refl, sym, ap, ◌∙◌}
+use mathlib.Core.Path.{◌≡◌, refl, sym, ap, ◌∙◌, subst}
 use mathlib.Core.Bool.{Bool, true, false, true≢false, cond, ◌||◌}
 use mathlib.Core.List.{List, [], ◌∷◌, ◌++◌, Memᴰ}
 use native.Mathlib.Decide.{ℕ_discrete}
@@ -113,6 +113,10 @@ module _ {counts : Row → ℕ → ℕ} (m : Measure counts) where
           rw (placed-none row x more nil, is-empty) (omega (arith, counts_none row))
       go (no some) = rw (placed-some row x more some) (omega (arith, alike x.long, alike x.short))
 
+  -- of a row of the same terms in its place
+  placed_same : (a b : Row) → bare a ≡ bare b → (x : Position) (more : List Row) → Splits (counted counts (placed a x more)) (scaled counts b x) (counted counts more)
+  placed_same a b e x more = omega (arith, placed-counted a x more, counts_same a b e x.long, counts_same a b e x.short)
+
   -- the netted rows after some issues, and after one issue j more: they differ by the net of j, which any row with j's terms may count
   pub split_off : (j : ℕ) (row : Row) (seen : List ℕ) (rows : List Row) → (j ≡ 0 → ⊥) → has seen j ≡ false
       → ((r : Row) → Memᴰ r rows → r.issue ≡ j → bare r ≡ bare row)
@@ -145,13 +149,9 @@ module _ {counts : Row → ℕ → ℕ} (m : Measure counts) where
       go (stands some' new') (yes own) same rest =
           let alike-here = alike r (Memᴰ.head refl) (sym own) in
           let part = net (issues_of (r ∷ rows) r.issue) in
-          rw (row_stands seen r rows some' new', own, row_gone (r.issue ∷ seen) r rows some' (has-own r.issue seen))
-          (omega (
-            arith,
-            placed-counted r part (netted_from (r.issue ∷ seen) rows),
-            counts_same r row alike-here part.long,
-            counts_same r row alike-here part.short,
-          ))
+          subst (λ (k : ℕ). Splits (counted counts (netted_from seen (r ∷ rows))) (scaled counts row (net (issues_of (r ∷ rows) k))) (counted counts (netted_from (k ∷ seen) (r ∷ rows)))) (sym own)
+          (rw (row_stands seen r rows some' new', row_gone (r.issue ∷ seen) r rows some' (has-own r.issue seen))
+          (placed_same r row alike-here part (netted_from (r.issue ∷ seen) rows)))
       go (stands some' new') (no other) same rest =
           let part = net (issues_of (r ∷ rows) r.issue) in
           rw (

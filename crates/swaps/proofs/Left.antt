@@ -117,6 +117,7 @@ none_fits_any (one_more apart rest) (also alone more) a b (Memᴰ.head own) (Mem
 none_fits_any (one_more apart rest) (also alone more) a b (Memᴰ.head own) (Memᴰ.tail later) = rw own (every_member apart b later)
 none_fits_any (one_more apart rest) (also alone more) a b (Memᴰ.tail later) (Memᴰ.head own) = fits-symmetric a b ∙ rw own (every_member apart a later)
 none_fits_any (one_more apart rest) (also alone more) a b (Memᴰ.tail later) (Memᴰ.tail later') = none_fits_any rest more a b later later'
+none_fits_any no_rows _ a b x8 _ = elim x8 [ ]
 
 -- ---- rows of which no two fit stay as they are
 fits-none : (row : Row) {rows : List Row} → Every (λ later. fits row later ≡ false) rows → some_fits row rows ≡ false

@@ -9,8 +9,7 @@ use Rattle.book.specs.declared.Row.{Row}
 use Rattle.layout.specs.Written.{written}
 use Rattle.layout.specs.Files.{two_bytes_of, four_bytes_of, row_bytes}
 use Rattle.layout.proofs.Writing.{written-more}
-use Rattle.layout.proofs.fields.write_row.Statement.{statement}
-use Rattle.layout.proofs.fields.write_row.Tie as tie
+use Rattle.layout.proofs.fields.write_row.Goals as goal
 
 row_in_steps : (row : Row) (out : List ℕ) (at : ℕ) {out1 out2 out3 out4 out5 out6 : List ℕ} → at + 16 ≤ length out
     → out1 ≡ written out at (row.group ∷ row.kind ∷ []) → out2 ≡ written out1 (at + 2) (two_bytes_of row.days)
@@ -29,33 +28,8 @@ row_in_steps row out at room e1 e2 e3 e4 e5 e6 =
     let to_long = written-more out issue (four_bytes_of row.long) at (at + 8) to-issue e5 refl (omega arith) in
     written-more out (issue ++ four_bytes_of row.long) (four_bytes_of row.short) at (at + 12) to_long e6 refl (omega arith)
 
-returns : tie.Need-returns
+pub returns : goal.returns
 returns c =
-    let short = c.before.before in
-    let long = short.before.before.before.before in
-    let issue = long.before.before.before.before in
-    let coupon = issue.before.before.before.before in
-    let days = coupon.before.before.before.before in
-    let head = days.before.before.before.before in
-    let start = head.before.before.before in
-    row_in_steps start.args.row start.args.out.now start.args.at start.requires
-    head.write-pair.ensures days.write-u16.ensures coupon.write-u162.ensures issue.write-u163.ensures
-    long.write-u32.ensures short.write-u322.ensures
-
-pub write_row_spec : {M : Type 1} → statement M
-write_row_spec =
-    tie.close
-    (tie.spec
-    (λ c. search rules)
-    (λ c. search rules)
-    (λ c. search rules)
-    (λ c. search rules)
-    (λ c. search rules)
-    (λ c. search rules)
-    (λ c. search rules)
-    (λ c. search rules)
-    (λ c. search rules)
-    (λ c. search rules)
-    (λ c. search rules)
-    (λ c. search rules)
-    returns)
+    row_in_steps c.args.row c.args.out.now c.args.at c.requires
+    c.write_pair.ensures c.write_u16.ensures c.write_u16-2.ensures c.write_u16-3.ensures
+    c.write_u32.ensures c.write_u32-2.ensures

@@ -9,12 +9,12 @@ use lib.ListN.{length}
 use Rattle.ladder.specs.declared.Table.{Table}
 use Rattle.table.specs.Loaded.{table_size, table_of, weights_hold, percents_hold, table_refusal}
 use Rattle.table.specs.Inner.Loading.{loaded_of}
-use Rattle.table.proofs.load.Statement.{statement}
-use Rattle.table.proofs.load.Tie as tie
+use Rattle.table.proofs.load.Goals.{After-both-holds}
+use Rattle.table.proofs.load.Goals as goal
 
-returns : tie.Need-returns
+pub returns-then-bytes-ne-SIZE : goal.returns-then-bytes-ne-SIZE
 unfolding loaded_of table_refusal
-returns c = simp (ne_eqb _ _ c.before.if1.true, c.none.ensures)
+returns-then-bytes-ne-SIZE c = simp (ne_eqb _ _ c.if-bytes-ne-SIZE.true, c.none.ensures)
 
 turned : (test : Bool) (a b : ℕ) → cond (not test) b a ≡ cond test a b
 turned true a b = refl
@@ -28,30 +28,14 @@ unfolding table_refusal loaded_of
 given_table bytes table test sized is t = rw (t, is) (simp (eq-eqb _ _ sized, turned))
 
 -- what is found of 36 bytes
-module _ (c : tie.After-both) where
-  abbrev read : tie.After-read-table
-  read = c.before.before.before.before.before
-
-  found : (test : Bool) → c.both.result ≡ test → record { number = cond test 0 19; table = read.read_table.result } ≡ loaded_of read.before.before.before.args.bytes.now
+module _ (c : After-both-holds) where
+  found : (test : Bool) → c.both-holds.result ≡ test → record { number = cond test 0 19; table = c.read_table-table.result } ≡ loaded_of c.args.bytes.now
   found test is =
-      given_table _ _ test read.before.if1.left read.read_table.ensures
-      (sym is ∙ c.both.ensures ∙ ap₂ ◌&&◌ c.before.before.weights-hold.ensures c.before.percents-hold.ensures)
+      given_table _ _ test c.if-bytes-ne-SIZE.false c.read_table-table.ensures
+      (sym is ∙ c.both-holds.ensures ∙ ap₂ ◌&&◌ c.weights_hold.ensures c.percents_hold.ensures)
 
-returns-2 : tie.Need-returns-2
-returns-2 c = found c.before true c.if2.true
+pub returns-then-holds : goal.returns-then-holds
+returns-then-holds c = found (goal.at.returns-then-holds c).After-both-holds true c.if-holds.true
 
-returns-3 : tie.Need-returns-3
-returns-3 c = found c.before false c.if2.false
-
-pub load_spec : {M : Type 1} → statement M
-load_spec =
-    tie.close
-    (tie.spec
-    (λ c κs. search rules)
-    returns
-    (λ c κs. search rules)
-    (λ c κs. search rules)
-    (λ c κs. search rules)
-    (λ c κs. search rules)
-    returns-2
-    returns-3)
+pub returns-else-holds : goal.returns-else-holds
+returns-else-holds c = found (goal.at.returns-else-holds c).After-both-holds false c.if-holds.false
