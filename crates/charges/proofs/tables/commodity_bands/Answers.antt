@@ -1,0 +1,17 @@
+-- `charges::tables::commodity_bands` meets its contract: the array is filled band by band.
+use mathlib.Core.Path.{refl}
+use Prim.Native.Nat.{◌+◌, ◌-◌}
+use native.Mathlib.Omega.{arith}
+use borrow.Author.Rules.{rules}
+use lib.ListN.{get_or}
+use Rattle.sums.proofs.Filling.{Filled, filled_none, filled_next, filled_all}
+use Rattle.charges.proofs.tables.commodity_bands.Goals as goal
+
+pub loop-k-init : goal.loop-k-init
+loop-k-init c = filled_none _ _ _ refl
+
+pub loop-k-preserved : goal.loop-k-preserved
+loop-k-preserved c = filled_next _ _ _ _ _ c.loop-k.invariant (omega arith) refl
+
+pub returns : goal.returns
+returns c = filled_all _ _ _ _ c.loop-k.invariant c.loop-k-test.false
