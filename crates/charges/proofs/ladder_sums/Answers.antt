@@ -8,9 +8,7 @@ use Rattle.charges.proofs.ladder_sums.Goals as goal
 
 -- the part that is read is the class's
 part_is : (c : After-body-part) → c.body-part.result.now ≡ part_of c.args.book.now c.args.class
-part_is c =
-    let then = c.before in
-    c.body-part.ensures ∙ (then.before.before.before.before.ladder-checked.ensures.read then.if1.true).parts _
+part_is c = c.body-part.ensures ∙ (c.ladder_checked-checked.ensures.read c.if-refusal-eq0.true).parts _
 
 pub tally-requires : goal.tally-requires
 tally-requires c =

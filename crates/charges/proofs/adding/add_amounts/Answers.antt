@@ -11,4 +11,4 @@ pub overflow_add-shorts : goal.overflow_add-shorts
 overflow_add-shorts c = omega (arith, c.requires.roomy.1.room c.args.at c.requires.at_lt_slot_count.0)
 
 pub returns : goal.returns
-returns c = (refl, refl)
+returns c = record { longs_after = refl; shorts_after = refl }

@@ -10,4 +10,5 @@ add_amounts-requires c =
     record { at_lt_slot_count = (omega (arith, clean.group), clean.long, clean.short); roomy = c.requires.roomy }
 
 pub returns : goal.returns
-returns c = rw (exchange_slot c.args.row) c.add_amounts.ensures
+returns c =
+    (rw (exchange_slot c.args.row) c.add_amounts.ensures.longs_after, rw (exchange_slot c.args.row) c.add_amounts.ensures.shorts_after)

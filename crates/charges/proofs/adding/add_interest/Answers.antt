@@ -31,8 +31,8 @@ returns c =
     let to = c.add_amounts.ensures in
     let band = c.interest_band-band.ensures.0 in
     record {
-      to_longs = rw (interest_slot row, ← band) to.0;
-      to_shorts = rw (interest_slot row, ← band) to.1;
+      to_longs = rw (interest_slot row, ← band) to.longs_after;
+      to_shorts = rw (interest_slot row, ← band) to.shorts_after;
       to_specifics = rw (group_slot_lem row 1 0 refl, zero-add row.group, ← c.specific_charge.ensures) refl;
       to_rows = rw (group_slot_lem row 1 0 refl, zero-add row.group) refl;
     }

@@ -18,7 +18,7 @@ unfolding ascending
 asked all days is h = rw is ((refl, omega arith), (refl, h))
 
 pub first_band-requires : goal.first_band-requires
-first_band-requires c = asked _ _ c.requires (omega arith)
+first_band-requires c = let is = asked _ _ c.requires (omega arith) in record { columns_len = is.0; columns_value = is.1 }
 
 pub returns : goal.returns
 unfolding commodity_band

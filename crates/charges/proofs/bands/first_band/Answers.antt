@@ -30,13 +30,13 @@ module _ (start : Start) where
   entry i h = (part_reads start.args.first column_size start.args.columns.now).below i h
 
   sized : length (column_from start.args.first start.args.columns.now) ≡ column_size
-  sized = part_sized start.args.first column_size start.args.columns.now (omega (arith, start.pre.0))
+  sized = part_sized start.args.first column_size start.args.columns.now (omega (arith, start.requires.columns_len.1))
 
   told : (j i : ℕ) → j ≡ start.args.first + i → i < column_size → Told band i (test j)
   told j i e h =
       rw e
       (record {
-        past = λ t. first_past _ _ start.pre.1.0 i (rw sized h) (rw (entry i h) (ltb-true _ _ t));
+        past = λ t. first_past _ _ start.requires.columns_value.0 i (rw sized h) (rw (entry i h) (ltb-true _ _ t));
         by = λ t. first_by _ _ i (rw (entry i h) (ltb-false _ _ t));
       })
 
@@ -55,7 +55,7 @@ module _ (start : Start) where
 
   in_quarter : (4 * quarter ≤ band) × (band ≤ 4 * quarter + 3)
   in_quarter =
-      let last = first_by start.args.days (column_from start.args.first start.args.columns.now) 15 (rw (entry 15 (omega arith)) start.pre.1.1) in
+      let last = first_by start.args.days (column_from start.args.first start.args.columns.now) 15 (rw (entry 15 (omega arith)) start.requires.columns_value.1) in
       omega (
         arith,
         few,

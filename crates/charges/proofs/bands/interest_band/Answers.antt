@@ -30,7 +30,7 @@ pub overflow_mul-low_coupon : goal.overflow_mul-low_coupon
 overflow_mul-low_coupon c = omega (arith, counts_once c.low_coupon.result)
 
 pub first_band-requires : goal.first_band-requires
-first_band-requires c = asked _ _ c.low_coupon.result c.requires (omega arith)
+first_band-requires c = let is = asked _ _ c.low_coupon.result c.requires (omega arith) in record { columns_len = is.0; columns_value = is.1 }
 
 pub returns : goal.returns
 unfolding interest_band

@@ -24,7 +24,7 @@ loop-i-init c = front_none _ _ _
 
 rated : (start : Start)
     → Rated (cost start.args.longs.now start.args.shorts.now) (size start.args.longs.now start.args.shorts.now) 186000 most_gross group_count
-rated start = record { each = λ g. commodity-within (bands_from start.args.longs.now start.args.shorts.now (commodity_at g)); whole = start.requires.groups_bound.0 }
+rated start = record { each = λ g. commodity-within (bands_from start.args.longs.now start.args.shorts.now (commodity_at g)); whole = start.requires.groups_bound }
 
 -- the list has room for all groups
 sized : (c : After-used_groups-used) → c.used_groups-used.result.many ≤ length c.used_groups-used.result.list
@@ -64,7 +64,7 @@ overflow_add-charge c =
     omega (
       arith,
       front_room _ _ _ _ _ _ c.loop-i.invariant c.loop-i-test.true (sized (goal.at.overflow_add-charge c).After-used_groups-used) (added (goal.at.overflow_add-charge c).After-struct_known-1),
-      used_within _ _ _ _ (rated (goal.at.overflow_add-charge c).Start) _ c.used_groups-used.result c.used_groups-used.ensures c.requires.groups_bound.1,
+      used_within _ _ _ _ (rated (goal.at.overflow_add-charge c).Start) _ c.used_groups-used.result c.used_groups-used.ensures c.requires.by_index,
     )
 
 pub loop-i-preserved : goal.loop-i-preserved
@@ -74,4 +74,4 @@ loop-i-preserved c =
 pub returns : goal.returns
 returns c =
     front_all _ _ _ _ _ c.loop-i.invariant c.loop-i-test.false
-    ∙ used_sum _ _ _ _ (rated (goal.at.returns c).Start) _ c.used_groups-used.result c.used_groups-used.ensures c.requires.groups_bound.1
+    ∙ used_sum _ _ _ _ (rated (goal.at.returns c).Start) _ c.used_groups-used.result c.used_groups-used.ensures c.requires.by_index

@@ -20,9 +20,8 @@ by start = table_with start.args.weights.now start.args.percents
 
 -- the arrays hold the weighted bands of the tables
 read : (c : After-weighted_shorts-1)
-    → (let start = c.before.before.before.before.before.before in
-    Agree band_count (bands c.weighted_bands-weighted_longs.result c.weighted_bands-weighted_shorts.result)
-    (weighted_from (by start) start.args.longs.now start.args.shorts.now start.args.first))
+    → Agree band_count (bands c.weighted_bands-weighted_longs.result c.weighted_bands-weighted_shorts.result)
+    (weighted_from (table_with c.args.weights.now c.args.percents) c.args.longs.now c.args.shorts.now c.args.first)
 unfolding weight_in
 read c = arrays_agree band_count _ _ _ _ c.weighted_bands-weighted_longs.ensures c.weighted_bands-weighted_shorts.ensures
 

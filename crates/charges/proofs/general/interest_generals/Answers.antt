@@ -39,7 +39,7 @@ loop-i-init c = fronted_none _ _ _ _
 
 rated : (start : Start)
     → Rated (cost (table_with start.args.weights.now start.args.percents) start.args.longs.now start.args.shorts.now) (size start.args.longs.now start.args.shorts.now) 200000 most_gross group_count
-rated start = record { each = rate _ start.requires.table_bounds start.args.longs.now start.args.shorts.now; whole = start.requires.longs_len.1.0 }
+rated start = record { each = rate _ start.requires.table_bounds start.args.longs.now start.args.shorts.now; whole = start.requires.groups_bound }
 
 -- the list has room for all groups
 sized : (c : After-used_groups-used) → c.used_groups-used.result.many ≤ length c.used_groups-used.result.list
@@ -50,8 +50,8 @@ sized c =
 -- what stands in the list is a group
 here : (at : In-loop-i) → get_or at.used_groups-used.result.list at.loop-i.i 0 < group_count
 here at =
-    let listed = at.before.before.before in
-    used_group _ listed.used_groups-used.result listed.used_groups-used.ensures _ at.loop-i-test.true (sized listed)
+    let places : length at.used_groups-used.result.list ≡ 33 = search rules in
+    used_group _ at.used_groups-used.result at.used_groups-used.ensures _ at.loop-i-test.true (omega (arith, at.used_groups-used.ensures.few))
 
 pub bounds-list-i : goal.bounds-list-i
 bounds-list-i c = omega (arith, c.used_groups-used.ensures.few, c.loop-i-test.true)
@@ -61,7 +61,7 @@ overflow_mul-group c = omega (arith, here (goal.at.overflow_mul-group c).In-loop
 
 pub interest_figures-requires : goal.interest_figures-requires
 interest_figures-requires c =
-    record { table_bounds = c.requires.table_bounds; band_count_in_bounds = (omega (arith, here (goal.at.interest_figures-requires c).In-loop-i, c.requires.longs_len.0), omega (arith, here (goal.at.interest_figures-requires c).In-loop-i, c.requires.longs_len.0), rated_size _ _ _ _ _ (rated (goal.at.interest_figures-requires c).Start) _ (here (goal.at.interest_figures-requires c).In-loop-i)) }
+    record { table_bounds = c.requires.table_bounds; band_count_in_bounds = (omega (arith, here (goal.at.interest_figures-requires c).In-loop-i, c.requires.longs_len), omega (arith, here (goal.at.interest_figures-requires c).In-loop-i, c.requires.longs_len), rated_size _ _ _ _ _ (rated (goal.at.interest_figures-requires c).Start) _ (here (goal.at.interest_figures-requires c).In-loop-i)) }
 
 pub offset_bounds-charges-group : goal.offset_bounds-charges-group
 offset_bounds-charges-group c = omega (arith, here (goal.at.offset_bounds-charges-group c).In-loop-i)
@@ -71,9 +71,7 @@ bounds-charges-group c = omega (arith, here (goal.at.bounds-charges-group c).In-
 
 -- what is added is the charge of the group
 added : (c : After-struct_known-1)
-    → (let start = c.before.before.before.before.before.before.before.before in
-    let list = c.used_groups-used.result.list in
-    c.interest_figures.result.charge ≡ cost (table_with start.args.weights.now start.args.percents) start.args.longs.now start.args.shorts.now (get_or list c.loop-i.i 0))
+    → c.interest_figures.result.charge ≡ cost (table_with c.args.weights.now c.args.percents) c.args.longs.now c.args.shorts.now (get_or c.used_groups-used.result.list c.loop-i.i 0)
 added c = ap (λ figures. figures.charge) c.interest_figures.ensures
 
 pub overflow_add-charges : goal.overflow_add-charges
@@ -81,7 +79,7 @@ overflow_add-charges c =
     omega (
       arith,
       fronted_room _ _ _ _ _ _ _ c.loop-i.invariant c.loop-i-test.true (sized (goal.at.overflow_add-charges c).After-used_groups-used) (added (goal.at.overflow_add-charges c).After-struct_known-1) (here (goal.at.overflow_add-charges c).In-loop-i),
-      used_within _ _ _ _ (rated (goal.at.overflow_add-charges c).Start) _ c.used_groups-used.result c.used_groups-used.ensures c.requires.longs_len.1.1,
+      used_within _ _ _ _ (rated (goal.at.overflow_add-charges c).Start) _ c.used_groups-used.result c.used_groups-used.ensures c.requires.by_index,
     )
 
 pub bounds-charges-group-in-loop-i : goal.bounds-charges-group-in-loop-i
@@ -93,4 +91,4 @@ loop-i-preserved c =
 
 pub returns : goal.returns
 returns c =
-    used_table _ _ _ _ (rated (goal.at.returns c).Start) _ c.used_groups-used.result c.used_groups-used.ensures c.requires.longs_len.1.1 _ _ c.loop-i.invariant c.loop-i-test.false
+    used_table _ _ _ _ (rated (goal.at.returns c).Start) _ c.used_groups-used.result c.used_groups-used.ensures c.requires.by_index _ _ c.loop-i.invariant c.loop-i-test.false

@@ -13,6 +13,7 @@ use Rattle.charges.specs.Inner.Ladders.{GroupSums}
 use Rattle.charges.proofs.Legs.{Bounded, bounded}
 use Rattle.charges.proofs.Tallying.{row_at, side_room, group_next, group_kept}
 use Rattle.charges.proofs.ladders.tally.Goals.{After-row_at-row, Start}
+use Rattle.charges.proofs.ladders.tally.Goals.{then-row-group, else-row-group}
 use Rattle.charges.proofs.ladders.tally.Goals as goal
 
 -- the row of a turn: one of the part's
@@ -55,10 +56,10 @@ pub loop-i-preserved : goal.loop-i-preserved
 loop-i-preserved c =
     (
       omega arith,
-      ⊎_elim
-          (λ w. rw (w.7, w.8, w.2.ensures.0) (group_next c.args.class c.args.group _ _ _ (below (goal.at.loop-i-preserved c).After-row_at-row) (row_here (goal.at.loop-i-preserved c).After-row_at-row) _ _ c.loop-i.invariant.1 w.0.taken))
-          (λ w. rw (w.1, w.2) (group_kept c.args.class c.args.group _ _ _ (below (goal.at.loop-i-preserved c).After-row_at-row) (row_here (goal.at.loop-i-preserved c).After-row_at-row) _ _ c.loop-i.invariant.1 w.0.left))
-          c.if-row-group.branch,
+      elim c.if-row-group.branch [
+        | then-row-group w ↦ rw (w.longs-is, w.shorts-is, w.band_in-band.ensures.0) (group_next c.args.class c.args.group _ _ _ (below (goal.at.loop-i-preserved c).After-row_at-row) (row_here (goal.at.loop-i-preserved c).After-row_at-row) _ _ c.loop-i.invariant.1 w.if-row-group.true)
+        | else-row-group w ↦ rw (w.longs-is, w.shorts-is) (group_kept c.args.class c.args.group _ _ _ (below (goal.at.loop-i-preserved c).After-row_at-row) (row_here (goal.at.loop-i-preserved c).After-row_at-row) _ _ c.loop-i.invariant.1 w.if-row-group.false)
+      ],
     )
 
 pub returns : goal.returns

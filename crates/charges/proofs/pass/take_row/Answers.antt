@@ -40,15 +40,15 @@ returns-then-bad-ne0 c =
 
 pub add_interest-requires : goal.add_interest-requires
 add_interest-requires c =
-    record { clean = (clean (goal.at.add_interest-requires c).Else-bad-ne0 1 c.in-1.keys1, c.requires.le_class.2); room = c.requires.room }
+    record { clean = (clean (goal.at.add_interest-requires c).Else-bad-ne0 1 c.in-1.is, c.requires.le_class.2); room = c.requires.room }
 
 pub add_equity-requires : goal.add_equity-requires
 add_equity-requires c =
-    record { clean = clean (goal.at.add_equity-requires c).Else-bad-ne0 2 c.in-1.keys2; roomy = (c.requires.room.in_longs, c.requires.room.in_shorts, c.requires.room.in_specifics) }
+    record { clean = clean (goal.at.add_equity-requires c).Else-bad-ne0 2 c.in-2.is; roomy = (c.requires.room.in_longs, c.requires.room.in_shorts, c.requires.room.in_specifics) }
 
 pub add_exchange-requires : goal.add_exchange-requires
 add_exchange-requires c =
-    record { clean = clean (goal.at.add_exchange-requires c).Else-bad-ne0 3 c.in-1.keys3; roomy = (c.requires.room.in_longs, c.requires.room.in_shorts) }
+    record { clean = clean (goal.at.add_exchange-requires c).Else-bad-ne0 3 c.in-3.is; roomy = (c.requires.room.in_longs, c.requires.room.in_shorts) }
 
 pub add_commodity-requires : goal.add_commodity-requires
 add_commodity-requires c =

@@ -16,6 +16,7 @@ use Rattle.charges.specs.Inner.Slots.{leg_with, Room}
 use Rattle.charges.specs.Inner.Pass.{Took}
 use Rattle.charges.proofs.Progress.{Progress, none_taken, leg-room, leg-taken, leg-refused, all_taken}
 use Rattle.charges.proofs.pass.take_rows.Goals.{After-row_from-row, Joined-class}
+use Rattle.charges.proofs.pass.take_rows.Goals.{in-1, in-2, in-3, in_default}
 use Rattle.charges.proofs.pass.take_rows.Goals as goal
 
 -- the leg of a turn: the next of the book's, and room for it
@@ -27,7 +28,7 @@ module _ (c : After-row_from-row) where
   class = c.pass.class
 
   abbrev taken : ℕ
-  taken = c.loop-taken.true
+  taken = c.loop-taken.taken
 
   abbrev leg : Leg
   leg = leg_with class c.row_from-row.result
@@ -45,18 +46,19 @@ module _ (c : After-row_from-row) where
 
 -- what a turn did, by the class
 turn : (c : Joined-class)
-    → Took (leg c.before) c.in-1.number c.loop-taken.longs c.loop-taken.shorts
+    → Took (leg_with c.pass.class c.row_from-row.result) c.match-class.number c.loop-taken.longs c.loop-taken.shorts
     c.loop-taken.specifics c.loop-taken.rows
-    c.in-1.longs c.in-1.shorts c.in-1.specifics c.in-1.rows
+    c.match-class.longs c.match-class.shorts c.match-class.specifics c.match-class.rows
 turn c =
     let inside = c.loop-taken.invariant.0 in
-    ⊎_elim (λ w. rw (w.7, w.8, w.9, w.10, w.11, w.0.keys1) w.6.ensures)
-    (⊎_elim (λ w. rw (w.7, w.8, w.9, w.10, w.11, w.0.keys2) w.6.ensures)
-    (⊎_elim (λ w. rw (w.7, w.8, w.9, w.10, w.11, w.0.keys3) w.6.ensures)
-    (λ w.
-    let fourth : class c.before ≡ 4 = omega (arith, inside.low, inside.high, w.0.rest) in
-    rw (w.7, w.8, w.9, w.10, w.11, fourth) w.6.ensures)))
-    c.in-1.branch
+    elim c.match-class.branch [
+      | in-1 w ↦ rw (w.longs-is, w.shorts-is, w.specifics-is, w.rows-is, w.number-is, w.in-1.is) w.take_row-number.ensures
+      | in-2 w ↦ rw (w.longs-is, w.shorts-is, w.specifics-is, w.rows-is, w.number-is, w.in-2.is) w.take_row-number-in-2.ensures
+      | in-3 w ↦ rw (w.longs-is, w.shorts-is, w.specifics-is, w.rows-is, w.number-is, w.in-3.is) w.take_row-number-in-3.ensures
+      | in_default w ↦
+          let fourth : c.pass.class ≡ 4 = omega (arith, inside.low, inside.high) in
+          rw (w.longs-is, w.shorts-is, w.specifics-is, w.rows-is, w.number-is, fourth) w.take_row-number-in_default.ensures
+    ]
 
 pub pass-init : goal.pass-init
 pass-init c =

@@ -16,7 +16,7 @@ use Rattle.charges.specs.Inner.Slots.{LegSums}
 use Rattle.charges.proofs.Costs.{Costs, costs, generals_are}
 use Rattle.charges.proofs.Taking.{taken_number, sums_all}
 use Rattle.charges.proofs.Reporting.{Lists, Six, specifics_total, generals_total, total-fits, report_refused, six_fit, report_charged}
-use Rattle.charges.proofs.reports.charge_by.Goals.{After-commodity_general-commodity, After-equity_general, After-exchange_general-exchange, After-group_list-equity_specifics, After-group_list-interest_specifics, After-group_total, After-group_total-2, After-group_total-3, After-interest_generals-interest_generals, After-take_book-taken, Else-refused-ne0, Start}
+use Rattle.charges.proofs.reports.charge_by.Goals.{Else-refused-ne0}
 use Rattle.charges.proofs.reports.charge_by.Goals as goal
 
 pub take_book-taken-requires : goal.take_book-taken-requires
@@ -24,29 +24,15 @@ take_book-taken-requires c = record { no_longs = refl; no_shorts = refl; no_spec
 
 -- the book passed, and what its tables cost
 module _ (c : Else-refused-ne0) where
-  abbrev start : Start
-  start = c.before.before.before.before.before.before.before.before.before.before.before
+  of : Accepted c.args.book.now
+  of = accepted c.args.book.now (sym (taken_number _ _ _ c.take_book-taken.ensures.is_taken) ∙ c.if-refused-ne0.false)
 
-  abbrev s : List ℕ
-  s = start.args.book.now
+  sums : LegSums (legs_of c.args.book.now) c.take_book-taken.new.longs c.take_book-taken.new.shorts c.take_book-taken.new.specifics c.take_book-taken.new.rows
+  sums = let took = c.take_book-taken.ensures in sums_all _ _ _ took.is_taken c.if-refused-ne0.false took.sums
 
-  abbrev table : Table
-  table = start.args.table
+  cost : Costs c.args.book.now c.take_book-taken.new.longs c.take_book-taken.new.shorts c.take_book-taken.new.specifics c.take_book-taken.new.rows
+  cost = costs c.args.book.now _ _ _ _ of sums
 
-  ok : TableBounds table
-  ok = start.pre
-
-  of : Accepted s
-  of = accepted s (sym (taken_number _ _ _ c.take_book-taken.ensures.is_taken) ∙ c.if-refused-ne0.false)
-
-  abbrev pass : After-take_book-taken
-  pass = c.before.before.before
-
-  sums : LegSums (legs_of s) pass.take_book-taken.last.1.0 pass.take_book-taken.last.1.1.0 pass.take_book-taken.last.1.1.1.0 pass.take_book-taken.last.1.1.1.1.0
-  sums = let took = pass.take_book-taken.ensures in sums_all _ _ _ took.is_taken c.if-refused-ne0.false took.sums
-
-  cost : Costs s pass.take_book-taken.last.1.0 pass.take_book-taken.last.1.1.0 pass.take_book-taken.last.1.1.1.0 pass.take_book-taken.last.1.1.1.1.0
-  cost = costs s _ _ _ _ of sums
 
 pub returns-then-refused-ne0 : goal.returns-then-refused-ne0
 returns-then-refused-ne0 c = report_refused _ _ _ c.take_book-taken.ensures.is_taken _ c.refused_report.ensures c.if-refused-ne0.true
@@ -54,43 +40,34 @@ returns-then-refused-ne0 c = report_refused _ _ _ c.take_book-taken.ensures.is_t
 pub interest_generals-interest_generals-requires : goal.interest_generals-interest_generals-requires
 interest_generals-interest_generals-requires c =
     let p = cost (goal.at.interest_generals-interest_generals-requires c).Else-refused-ne0 in
-    (ok (goal.at.interest_generals-interest_generals-requires c).Else-refused-ne0, ((p.longs_sized, p.shorts_sized), (p.interest_fits, p.currency-unused)))
-
--- the lists, and what they come to
-module _ (c : After-group_list-equity_specifics) where
-  abbrev at_generals : After-interest_generals-interest_generals
-  at_generals = c.before.before
-
-  abbrev at_specifics : After-group_list-interest_specifics
-  at_specifics = at_generals.before.before.before.before.before
-
-  abbrev passed : Else-refused-ne0
-  passed = at_specifics.before.before
-
-  lists : Lists (table passed) (s passed) at_specifics.group_list-interest_specifics.result at_generals.interest_generals-interest_generals.result
-  lists =
-      record {
-        specifics_are = at_specifics.group_list-interest_specifics.ensures ∙ (cost passed).specifics_are;
-        generals_are = at_generals.interest_generals-interest_generals.ensures ∙ generals_are (s passed) _ _ _ _ (of passed) (sums passed) (table passed);
-      }
-
-  equity-total : sum_of (λ entry. entry) c.group_list-equity_specifics.result ≡ specific_charge 2 (class_rows (s passed) 2)
-  equity-total = ap (sum_of (λ entry. entry)) c.group_list-equity_specifics.ensures ∙ (cost passed).equity-specific_is
+    record { table_bounds = c.requires; longs_len = (p.longs_sized, p.shorts_sized); groups_bound = p.interest_fits; by_index = p.currency-unused }
 
 pub group_total-requires : goal.group_total-requires
 group_total-requires c =
-    let e = passed (goal.at.group_total-requires c).After-group_list-equity_specifics in
-    omega (arith, specifics_total (table (goal.at.group_total-requires c).Else-refused-ne0) (s (goal.at.group_total-requires c).Else-refused-ne0) _ _ (of (goal.at.group_total-requires c).Else-refused-ne0) (lists (goal.at.group_total-requires c).After-group_list-equity_specifics), total-fits (table (goal.at.group_total-requires c).Else-refused-ne0) (ok (goal.at.group_total-requires c).Else-refused-ne0) (s (goal.at.group_total-requires c).Else-refused-ne0) (of (goal.at.group_total-requires c).Else-refused-ne0))
+    let e = (goal.at.group_total-requires c).Else-refused-ne0 in
+    let lists : Lists c.args.table c.args.book.now c.group_list-interest_specifics.result c.interest_generals-interest_generals.result =
+    record {
+      specifics_are = c.group_list-interest_specifics.ensures ∙ (cost e).specifics_are;
+      generals_are = c.interest_generals-interest_generals.ensures ∙ generals_are c.args.book.now _ _ _ _ (of e) (sums e) c.args.table;
+    } in
+    omega (arith, specifics_total c.args.table c.args.book.now _ _ (of e) lists, total-fits c.args.table c.requires c.args.book.now (of e))
 
 pub group_total-requires-2 : goal.group_total-requires-2
 group_total-requires-2 c =
-    let e = passed (goal.at.group_total-requires-2 c).After-group_list-equity_specifics in
-    omega (arith, generals_total (table (goal.at.group_total-requires-2 c).Else-refused-ne0) (s (goal.at.group_total-requires-2 c).Else-refused-ne0) _ _ (of (goal.at.group_total-requires-2 c).Else-refused-ne0) (lists (goal.at.group_total-requires-2 c).After-group_list-equity_specifics), total-fits (table (goal.at.group_total-requires-2 c).Else-refused-ne0) (ok (goal.at.group_total-requires-2 c).Else-refused-ne0) (s (goal.at.group_total-requires-2 c).Else-refused-ne0) (of (goal.at.group_total-requires-2 c).Else-refused-ne0))
+    let e = (goal.at.group_total-requires-2 c).Else-refused-ne0 in
+    let lists : Lists c.args.table c.args.book.now c.group_list-interest_specifics.result c.interest_generals-interest_generals.result =
+    record {
+      specifics_are = c.group_list-interest_specifics.ensures ∙ (cost e).specifics_are;
+      generals_are = c.interest_generals-interest_generals.ensures ∙ generals_are c.args.book.now _ _ _ _ (of e) (sums e) c.args.table;
+    } in
+    omega (arith, generals_total c.args.table c.args.book.now _ _ (of e) lists, total-fits c.args.table c.requires c.args.book.now (of e))
 
 pub group_total-requires-3 : goal.group_total-requires-3
 group_total-requires-3 c =
-    let e = passed (goal.at.group_total-requires-3 c).After-group_list-equity_specifics in
-    omega (arith, equity-total (goal.at.group_total-requires-3 c).After-group_list-equity_specifics, total-fits (table (goal.at.group_total-requires-3 c).Else-refused-ne0) (ok (goal.at.group_total-requires-3 c).Else-refused-ne0) (s (goal.at.group_total-requires-3 c).Else-refused-ne0) (of (goal.at.group_total-requires-3 c).Else-refused-ne0))
+    let e = (goal.at.group_total-requires-3 c).Else-refused-ne0 in
+    let total : sum_of (λ entry. entry) c.group_list-equity_specifics.result ≡ specific_charge 2 (class_rows c.args.book.now 2) =
+    ap (sum_of (λ entry. entry)) c.group_list-equity_specifics.ensures ∙ (cost e).equity-specific_is in
+    omega (arith, total, total-fits c.args.table c.requires c.args.book.now (of e))
 
 pub equity_general-requires : goal.equity_general-requires
 equity_general-requires c = let p = cost (goal.at.equity_general-requires c).Else-refused-ne0 in (p.longs_sized, p.shorts_sized, p.equity-fits)
@@ -103,50 +80,43 @@ exchange_general-exchange-requires c =
 pub commodity_general-commodity-requires : goal.commodity_general-commodity-requires
 commodity_general-commodity-requires c =
     let p = cost (goal.at.commodity_general-commodity-requires c).Else-refused-ne0 in
-    ((p.longs_sized, p.shorts_sized), (p.commodity-fits, p.commodity-unused))
-
--- the six charges
-module _ (c : After-commodity_general-commodity) where
-  abbrev at_exchange : After-exchange_general-exchange
-  at_exchange = c.before.before.before.before
-
-  abbrev at_equity : After-equity_general
-  at_equity = at_exchange.before.before.before
-
-  abbrev at_third : After-group_total-3
-  at_third = at_equity.before.before.before
-
-  abbrev at_second : After-group_total-2
-  at_second = at_third.before
-
-  abbrev at_first : After-group_total
-  at_first = at_second.before
-
-  abbrev listed : After-group_list-equity_specifics
-  listed = at_first.before
-
-  abbrev at : Else-refused-ne0
-  at = passed listed
-
-  six : Six (table at) (s at) at_first.group_total.result at_second.group_total-2.result at_third.group_total-3.result
-      at_equity.equity_general.result at_exchange.exchange_general-exchange.result c.commodity_general-commodity.result
-  six =
-      record {
-        interest_specific = at_first.group_total.ensures ∙ specifics_total (table at) (s at) _ _ (of at) (lists listed);
-        interest_general_lem = at_second.group_total-2.ensures ∙ generals_total (table at) (s at) _ _ (of at) (lists listed);
-        equity-specific = at_third.group_total-3.ensures ∙ equity-total listed;
-        equity-general = at_equity.equity_general.ensures ∙ (cost at).equity-is;
-        exchange = at_exchange.exchange_general-exchange.ensures ∙ (cost at).exchange_is;
-        commodity = c.commodity_general-commodity.ensures ∙ (cost at).commodity-is;
-      }
+    record { longs_len = (p.longs_sized, p.shorts_sized); groups_bound = p.commodity-fits; by_index = p.commodity-unused }
 
 pub charged_report-requires : goal.charged_report-requires
 charged_report-requires c =
-    let e = at (goal.at.charged_report-requires c).After-commodity_general-commodity in
-    six_fit (table (goal.at.charged_report-requires c).Else-refused-ne0) _ _ e.before.before.before.take-book.ensures.is_taken e.if1.left _ _ _ _ _ _ (six (goal.at.charged_report-requires c).After-commodity_general-commodity) (ok (goal.at.charged_report-requires c).Else-refused-ne0) (of (goal.at.charged_report-requires c).Else-refused-ne0)
+    let e = (goal.at.charged_report-requires c).Else-refused-ne0 in
+    let lists : Lists c.args.table c.args.book.now c.group_list-interest_specifics.result c.interest_generals-interest_generals.result =
+    record {
+      specifics_are = c.group_list-interest_specifics.ensures ∙ (cost e).specifics_are;
+      generals_are = c.interest_generals-interest_generals.ensures ∙ generals_are c.args.book.now _ _ _ _ (of e) (sums e) c.args.table;
+    } in
+    let six : Six c.args.table c.args.book.now c.group_total.result c.group_total-2.result c.group_total-3.result c.equity_general.result c.exchange_general-exchange.result c.commodity_general-commodity.result =
+    record {
+      interest_specific = c.group_total.ensures ∙ specifics_total c.args.table c.args.book.now _ _ (of e) lists;
+      interest_general_lem = c.group_total-2.ensures ∙ generals_total c.args.table c.args.book.now _ _ (of e) lists;
+      equity-specific = c.group_total-3.ensures ∙ ap (sum_of (λ entry. entry)) c.group_list-equity_specifics.ensures ∙ (cost e).equity-specific_is;
+      equity-general = c.equity_general.ensures ∙ (cost e).equity-is;
+      exchange = c.exchange_general-exchange.ensures ∙ (cost e).exchange_is;
+      commodity = c.commodity_general-commodity.ensures ∙ (cost e).commodity-is;
+    } in
+    six_fit c.args.table _ _ c.take_book-taken.ensures.is_taken c.if-refused-ne0.false _ _ _ _ _ _ six c.requires (of e)
 
 pub returns : goal.returns
 returns c =
-    let e = at (goal.at.returns c).After-commodity_general-commodity in
-    report_charged (table (goal.at.returns c).Else-refused-ne0) _ _ e.before.before.before.take-book.ensures.is_taken e.if1.left _ _ _ _ _ _ (six (goal.at.returns c).After-commodity_general-commodity) _ _ (lists (goal.at.returns c).After-group_list-equity_specifics)
+    let e = (goal.at.returns c).Else-refused-ne0 in
+    let lists : Lists c.args.table c.args.book.now c.group_list-interest_specifics.result c.interest_generals-interest_generals.result =
+    record {
+      specifics_are = c.group_list-interest_specifics.ensures ∙ (cost e).specifics_are;
+      generals_are = c.interest_generals-interest_generals.ensures ∙ generals_are c.args.book.now _ _ _ _ (of e) (sums e) c.args.table;
+    } in
+    let six : Six c.args.table c.args.book.now c.group_total.result c.group_total-2.result c.group_total-3.result c.equity_general.result c.exchange_general-exchange.result c.commodity_general-commodity.result =
+    record {
+      interest_specific = c.group_total.ensures ∙ specifics_total c.args.table c.args.book.now _ _ (of e) lists;
+      interest_general_lem = c.group_total-2.ensures ∙ generals_total c.args.table c.args.book.now _ _ (of e) lists;
+      equity-specific = c.group_total-3.ensures ∙ ap (sum_of (λ entry. entry)) c.group_list-equity_specifics.ensures ∙ (cost e).equity-specific_is;
+      equity-general = c.equity_general.ensures ∙ (cost e).equity-is;
+      exchange = c.exchange_general-exchange.ensures ∙ (cost e).exchange_is;
+      commodity = c.commodity_general-commodity.ensures ∙ (cost e).commodity-is;
+    } in
+    report_charged c.args.table _ _ c.take_book-taken.ensures.is_taken c.if-refused-ne0.false _ _ _ _ _ _ six _ _ lists
     _ c.charged_report.ensures

@@ -16,15 +16,15 @@ pub loop-group-init : goal.loop-group-init
 loop-group-init c = summed_none _ group_count
 
 -- read one by one the entries come to the whole
-whole : (start : Start) → sum_of (λ g. get_or start.args.t1 g 0) groups ≡ sum_of (λ entry. entry) start.args.t1
-whole start = entries_sum group_count start.args.t1 (search rules)
+whole : (start : Start) → sum_of (λ g. get_or start.args.list g 0) groups ≡ sum_of (λ entry. entry) start.args.list
+whole start = entries_sum group_count start.args.list (search rules)
 
 pub overflow_add-sum : goal.overflow_add-sum
 overflow_add-sum c =
     omega (
       arith,
       c.loop-group.invariant.is_sum,
-      sum_room (λ g. get_or c.args.t1 g 0) c.loop-group.group group_count c.loop-group-test.true,
+      sum_room (λ g. get_or c.args.list g 0) c.loop-group.group group_count c.loop-group-test.true,
       whole (goal.at.overflow_add-sum c).Start,
       c.requires,
     )
