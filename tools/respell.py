@@ -15,6 +15,7 @@ import sys
 ROOT = os.path.abspath(sys.argv[1]) if len(sys.argv) > 1 else os.path.join(os.path.dirname(os.path.abspath(__file__)), "..")
 DECLARED = re.compile(r"^(\s*)((?:pub |abbrev |unfoldable |data |record )*)([^\s:(){}.,;λ]+) :( |$)")
 TOKEN = re.compile(r"[^\s(){}\[\].,;:\"`|]+")
+STRING = re.compile(r'("[^"\n]*")')
 QUOTED = re.compile(r"`[^`\n]+`")
 GOAL = re.compile(r"\bNeed-(\S+)")
 # Definitions whose name in snake case a lemma or a function of src/ has.
@@ -75,6 +76,9 @@ def table():
         assert to not in names, f"{n}: {to} is there"
         new[n] = to
         taken.add(to)
+    for path in files((".rt",), "crates"):
+        for n in re.findall(r"\bas ([a-z]\w*[A-Z]\w*)[,}]", read(path)):
+            new[n] = snake(n)
     for n in sorted(names):
         if n in KEPT or "-" not in n or "`" in n or not n[0].isalpha() or n.endswith("-"):
             continue
@@ -102,7 +106,8 @@ def main():
     changed = 0
     for path in files((".antt", ".rt", ".edit"), "crates"):
         text = read(path)
-        turned = TOKEN.sub(turn, text)
+        parts = STRING.split(text)
+        turned = "".join(p if i % 2 else TOKEN.sub(turn, p) for i, p in enumerate(parts))
         changed += turned != text
         if turned != text:
             with open(path, "w", encoding="utf-8") as f:

@@ -6,7 +6,7 @@ ghost use Rattle.book.specs.Refusals.{most_amount};
 ghost use Rattle.book.specs.Inner.Reading.{part_rows};
 ghost use Rattle.ladder.specs.Position.{gross};
 ghost use Rattle.layout.specs.Written.{written};
-ghost use Rattle.issues.specs.Issues.{holding as holdingOf};
+ghost use Rattle.issues.specs.Issues.{holding as holding_of};
 ghost use Rattle.amounts.specs.Inner.Standing.{positions_in};
 ghost use Rattle.amounts.specs.Inner.Writing.{placed_bytes, standing_bytes, CanWriteRows, standing_body, CanWrite};
 
@@ -17,7 +17,7 @@ use ladder::positions::Position;
 // A row with other amounts.
 fn holding(row: Row, amounts: Position) -> Row
     requires { gross amounts ≤ most_amount }
-    ensures { result ≡ holdingOf row amounts }
+    ensures { result ≡ holding_of row amounts }
 {
     Row {
         group: row.group,

@@ -4,7 +4,7 @@ ghost use Rattle.sums.specs.Inner.Tables.{placed};
 ghost use Rattle.book.specs.Refusals.{most_amount};
 ghost use Rattle.book.specs.Accepted.{Clean};
 ghost use Rattle.charges.specs.Charges.{eight_per_cent};
-ghost use Rattle.charges.specs.Inner.Columns.{columns as allColumns};
+ghost use Rattle.charges.specs.Inner.Columns.{columns as all_columns};
 ghost use Rattle.charges.specs.Inner.Slots.{slot_count, group_slots, leg_with, leg_slot, group_slot, leg_long, leg_short, leg_specific, leg_counted, Roomy, Room, Added};
 
 use crate::slots::{COMMODITY, EQUITY, EXCHANGE, GROUP_SLOTS, GROUPS, SLOTS};
@@ -32,7 +32,7 @@ pub fn add_interest(
     specifics: &mut [u64; GROUP_SLOTS],
     rows: &mut [u16; GROUP_SLOTS],
 )
-    requires clean { Clean 1 row × (columns.now ≡ allColumns) }
+    requires clean { Clean 1 row × (columns.now ≡ all_columns) }
     requires room { Room longs.old shorts.old specifics.old rows.old }
     ensures { Added (leg_with 1 row) longs.old shorts.old specifics.old rows.old longs.new shorts.new specifics.new rows.new }
 {
@@ -76,7 +76,7 @@ pub fn add_commodity(
     shorts: &mut [u64; SLOTS],
     rows: &mut [u16; GROUP_SLOTS],
 )
-    requires clean { Clean 4 row × (columns.now ≡ allColumns) }
+    requires clean { Clean 4 row × (columns.now ≡ all_columns) }
     requires roomy { Roomy slot_count most_amount longs.old × Roomy slot_count most_amount shorts.old × Roomy group_slots 1 rows.old }
     ensures { (longs.new ≡ placed leg_slot leg_long longs.old (leg_with 4 row)) × (shorts.new ≡ placed leg_slot leg_short shorts.old (leg_with 4 row)) × (rows.new ≡ placed group_slot leg_counted rows.old (leg_with 4 row)) }
 {

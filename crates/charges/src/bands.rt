@@ -3,7 +3,7 @@ ghost use Rattle.std.specs.Prelude.{◌≡◌, true, ◌+◌, ◌<◌, ◌≤◌
 ghost use Rattle.ladder.specs.Commodity.{commodity_band_count};
 ghost use Rattle.ladder.specs.Inner.Steps.{band_count};
 ghost use Rattle.charges.specs.Bands.{first_band, low_coupon, interest_band, commodity_band, band_in};
-ghost use Rattle.charges.specs.Inner.Columns.{ascending, column_size, columns as allColumns, column_from};
+ghost use Rattle.charges.specs.Inner.Columns.{ascending, column_size, columns as all_columns, column_from};
 
 use book::Row;
 use ladder::BANDS;
@@ -47,7 +47,7 @@ fn low_coupon(row: Row) -> bool
 
 // The band of an interest row.
 pub fn interest_band(row: Row, columns: &[u16; PLACES]) -> usize
-    requires { columns.now ≡ allColumns }
+    requires { columns.now ≡ all_columns }
     ensures { (result ≡ interest_band row) × (result < band_count) }
 {
     first_band(columns, COLUMN * (low_coupon(row) as usize), row.days)
@@ -55,7 +55,7 @@ pub fn interest_band(row: Row, columns: &[u16; PLACES]) -> usize
 
 // The band of a commodity row.
 pub fn commodity_band(row: Row, columns: &[u16; PLACES]) -> usize
-    requires { columns.now ≡ allColumns }
+    requires { columns.now ≡ all_columns }
     ensures { (result ≡ commodity_band row) × (result < commodity_band_count) }
 {
     first_band(columns, 2 * COLUMN, row.days)
@@ -63,7 +63,7 @@ pub fn commodity_band(row: Row, columns: &[u16; PLACES]) -> usize
 
 // The band of a row of a class, 0 in a class without bands.
 pub fn band_in(class: usize, row: Row, columns: &[u16; PLACES]) -> usize
-    requires { columns.now ≡ allColumns }
+    requires { columns.now ≡ all_columns }
     ensures { (result ≡ band_in class row) × (result < band_count) }
 {
     match class {

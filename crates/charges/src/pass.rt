@@ -5,7 +5,7 @@ ghost use Rattle.book.specs.Legs.{legs_of};
 ghost use Rattle.book.specs.Refusals.{contents_refusal, first_refusal, refusal_of};
 ghost use Rattle.book.specs.Inner.Reading.{Sized};
 ghost use Rattle.charges.specs.SmallBank.{small_number, small_refusal};
-ghost use Rattle.charges.specs.Inner.Columns.{columns as allColumns};
+ghost use Rattle.charges.specs.Inner.Columns.{columns as all_columns};
 ghost use Rattle.charges.specs.Inner.Slots.{leg_with, Clear, Room};
 ghost use Rattle.charges.specs.Inner.Pass.{refused_at, refusal_after, Took, PassOf};
 
@@ -148,7 +148,7 @@ fn take_row(
     specifics: &mut [u64; GROUP_SLOTS],
     rows: &mut [u16; GROUP_SLOTS],
 ) -> u8
-    requires le_class { (1 ≤ class) × (class ≤ 4) × (columns.now ≡ allColumns) }
+    requires le_class { (1 ≤ class) × (class ≤ 4) × (columns.now ≡ all_columns) }
     requires room { Room longs.old shorts.old specifics.old rows.old }
     ensures { Took (leg_with class row) result longs.old shorts.old specifics.old rows.old longs.new shorts.new specifics.new rows.new }
 {

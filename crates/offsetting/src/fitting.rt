@@ -1,6 +1,6 @@
 // Which two swap legs fit.
 ghost use Rattle.std.specs.Prelude.{◌≡◌, min};
-ghost use Rattle.swaps.specs.Fitting.{apart as apartOf, most_days_apart, government as governmentOf, near as nearOf};
+ghost use Rattle.swaps.specs.Fitting.{apart as apart_of, most_days_apart, government as government_of, near as near_of};
 
 use book::Row;
 
@@ -10,7 +10,7 @@ const MOST_COUPONS_APART: u16 = 15;
 
 // How far two numbers are apart.
 fn apart(a: u16, b: u16) -> u16
-    ensures { result ≡ apartOf a b }
+    ensures { result ≡ apart_of a b }
 {
     if a < b { b - a } else { a - b }
 }
@@ -34,14 +34,14 @@ fn most_days_apart(days: u16) -> u16
 
 // Whether a row is a government row.
 pub fn government(row: Row) -> bool
-    ensures { result ≡ governmentOf row }
+    ensures { result ≡ government_of row }
 {
     row.kind == GOVERNMENT
 }
 
 // Whether two rows are government rows of one currency, with coupons and days that are near enough.
 pub fn near(a: Row, b: Row) -> bool
-    ensures { result ≡ nearOf a b }
+    ensures { result ≡ near_of a b }
 {
     if !government(a) {
         return false;

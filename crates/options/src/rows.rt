@@ -1,7 +1,7 @@
 // The rows of an option table, and whether their fields are in range.
 ghost use Rattle.std.specs.Prelude.{◌≡◌, ◌+◌, ◌*◌, ◌≤◌, length};
 ghost use Rattle.options.specs.Table.{count_size, option_size, option_count, option_at, options_of};
-ghost use Rattle.options.specs.Refusals.{length_refused, sort_allowed, size_allowed, allowed as isAllowed, first_outside, options_refusal};
+ghost use Rattle.options.specs.Refusals.{length_refused, sort_allowed, size_allowed, allowed as is_allowed, first_outside, options_refusal};
 ghost use Rattle.options.specs.Inner.Reading.{Whole};
 
 use crate::OptionRow;
@@ -83,7 +83,7 @@ fn size_allowed(option: OptionRow) -> bool
 
 // Every field is in its range.
 fn allowed(option: OptionRow) -> bool
-    ensures { result ≡ isAllowed option }
+    ensures { result ≡ is_allowed option }
 {
     if sort_allowed(option) {
         return size_allowed(option);

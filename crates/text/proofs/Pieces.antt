@@ -140,8 +140,8 @@ charges_most report =
     simp length-append
     (omega (
       arith,
-      line-most (ascii "interest_specific") report.interest.specific,
-      line-most (ascii "interest_general_lem") report.interest.general,
+      line-most (ascii "interest-specific") report.interest.specific,
+      line-most (ascii "interest-general") report.interest.general,
       line-most (ascii "equity-specific") report.equity.specific,
       line-most (ascii "equity-general") report.equity.general,
       line-most (ascii "fx") report.exchange,

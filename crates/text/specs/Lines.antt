@@ -20,8 +20,8 @@ line name n = name ++ (ascii " " ++ (decimal n ++ ascii "\n"))
 -- the lines of the six charges and the total (document 01, The program)
 unfoldable pub charges_text : Report → List ℕ
 charges_text report =
-    line (ascii "interest_specific") report.interest.specific
-    ++ (line (ascii "interest_general_lem") report.interest.general
+    line (ascii "interest-specific") report.interest.specific
+    ++ (line (ascii "interest-general") report.interest.general
     ++ (line (ascii "equity-specific") report.equity.specific
     ++ (line (ascii "equity-general") report.equity.general
     ++ (line (ascii "fx") report.exchange

@@ -29,8 +29,8 @@ fn write_charges(report: Report, out: &mut [u8]) -> usize
     requires { most_text ≤ length out.old }
     ensures { Wrote out.old 0 (charges_text report) result out.new }
 {
-    let interest = lines::write_line(b"interest_specific", report.interest.specific, out, 0);
-    let general = lines::write_line(b"interest_general_lem", report.interest.general, out, interest);
+    let interest = lines::write_line(b"interest-specific", report.interest.specific, out, 0);
+    let general = lines::write_line(b"interest-general", report.interest.general, out, interest);
     let equity = lines::write_line(b"equity-specific", report.equity.specific, out, general);
     let market = lines::write_line(b"equity-general", report.equity.general, out, equity);
     let exchange = lines::write_line(b"fx", report.exchange, out, market);

@@ -3,7 +3,7 @@
 mod search;
 
 ghost use Rattle.std.specs.Prelude.{◌≡◌};
-ghost use Rattle.trade.specs.Trade.{none as noAmount, place_refusal, least_trade_of};
+ghost use Rattle.trade.specs.Trade.{none as no_amount, place_refusal, least_trade_of};
 ghost use Rattle.trade.specs.Inner.Searching.{first_of};
 
 use book::Refusal;
@@ -26,7 +26,7 @@ pub struct Trade {
 }
 
 fn none() -> Least
-    ensures { result ≡ noAmount }
+    ensures { result ≡ no_amount }
 {
     Least {
         found: false,

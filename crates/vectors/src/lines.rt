@@ -155,7 +155,7 @@ pub fn shortest(book: &[u8], out: &mut [u8]) {
 
 pub fn least_trade(book: &[u8], table: &[u8], group: usize, band: usize, side: usize, limit: u64) {
     let trade = trade::least_trade(book, table, group, band, side, limit);
-    start(b"least_trade_lem", trade.refusal);
+    start(b"least-trade", trade.refusal);
     figure(trade.least.found as u64);
     figure(trade.least.amount);
     end();

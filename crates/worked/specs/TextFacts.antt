@@ -23,7 +23,7 @@ all_classes =
 unfoldable pub text_facts : List Worked
 text_facts =
     prints all_classes
-    (ascii "interest_specific 213280000\n" ++ (ascii "interest_general_lem 4580112500\n"
+    (ascii "interest-specific 213280000\n" ++ (ascii "interest-general 4580112500\n"
     ++ (ascii "equity-specific 8800000\n" ++ (ascii "equity-general 4800000\n"
     ++ (ascii "fx 26800000\n" ++ (ascii "commodity 79200000\n" ++ ascii "total 4912992500\n"))))))
     ∷ prints (book_of (government 9 270 75 0 ∷ currency 5 1000000001 0 ∷ []))
