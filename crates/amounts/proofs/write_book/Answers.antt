@@ -24,8 +24,7 @@ use Rattle.amounts.specs.Inner.Standing.{standing_book, CanStand}
 use Rattle.amounts.specs.Inner.Counting.{left_counts}
 use Rattle.amounts.specs.Inner.Writing.{standing_body, CanWrite}
 use Rattle.amounts.proofs.Outcome.{size_is, bodies_size, writes-whole}
-use Rattle.amounts.proofs.write_book.Statement.{statement}
-use Rattle.amounts.proofs.write_book.Tie as tie
+use Rattle.amounts.proofs.write_book.Goals as goal
 
 -- as many rows as the counts say
 part_count : (s : List ℕ) → length s ≡ contents_size + row_size * count_of_rows (counts_of s) → (class : ℕ)
@@ -81,49 +80,26 @@ module _ (s : List ℕ) (positions : Bands) (can : CanStand s positions) (counts
       let all : after ≡ written out 0 book = bodies ∙ rw (contents, is-left) (sym whole) in
       rw (none, size rows is-left is_rows, all) (record { is = rw fits; output = refl })
 
-left-counts-requires : tie.Need-left-counts-requires
-left-counts-requires c κs =
-    let start = c.before.before in
-    few _ _ start.requires.1 _ start.requires.0
+pub left_counts-left-requires : goal.left_counts-left-requires
+left_counts-left-requires c =
+    few _ _ c.requires.1 _ c.requires.0
 
-returns : tie.Need-returns
+pub returns-then-out-length : goal.returns-then-out-length
+returns-then-out-length c =
+    let answers = too_short _ _ c.requires.1 _ c.requires.0 c.args.out.now c.rows.result c.left_counts-left.ensures c.rows.ensures.0
+    c.if-out-length.true c.refused.ensures in
+    (answers.is, answers.output)
+
+pub write_bodies-requires : goal.write_bodies-requires
+write_bodies-requires c =
+    let fits = size _ _ c.requires.1 _ c.requires.0 c.rows.result c.left_counts-left.ensures c.rows.ensures.0 in
+    let room = c.if-out-length.false in
+    let same = ap length c.write_contents.ensures ∙ contents_room c.args.out.now _ (omega (arith, room)) in
+    writes _ _ c.requires.1 _ c.requires.0 _ (omega (arith, fits, same, room))
+
+pub returns : goal.returns
 returns c =
-    let rows = c.before.before in
-    let start = rows.before.before.before.before in
-    let answers = too_short _ _ start.requires.1 _ start.requires.0 start.args.out.now rows.rows.result rows.before.left-counts.ensures rows.rows.ensures.0
-    c.before.if1.true c.refused.ensures in
+    let answers = done _ _ c.requires.1 _ c.requires.0 c.args.out.now c.rows.result c.left_counts-left.ensures c.rows.ensures.0
+    c.if-out-length.false c.refused-2.ensures
+    c.write_contents.ensures c.write_bodies.ensures in
     (answers.is, answers.output)
-
-write-bodies-requires : tie.Need-write-bodies-requires
-write-bodies-requires c κs =
-    let rows = c.before.before.before.before.before.before in
-    let start = rows.before.before.before.before in
-    let fits = size _ _ start.requires.1 _ start.requires.0 rows.rows.result rows.before.left-counts.ensures rows.rows.ensures.0 in
-    let room = c.before.before.before.before.before.if1.false in
-    let same = ap length c.before.before.before.write-contents.ensures ∙ contents_room start.args.out.now _ (omega (arith, room)) in
-    writes _ _ start.requires.1 _ start.requires.0 _ (omega (arith, fits, same, room))
-
-returns-2 : tie.Need-returns-2
-returns-2 c =
-    let rows = c.before.before.before.before.before.before.before.before.before.before in
-    let start = rows.before.before.before.before in
-    let answers = done _ _ start.requires.1 _ start.requires.0 start.args.out.now rows.rows.result rows.before.left-counts.ensures rows.rows.ensures.0
-    c.before.before.before.before.before.before.before.before.before.if1.false c.refused2.ensures
-    c.before.before.before.before.before.before.before.write-contents.ensures c.before.before.before.write-bodies.ensures in
-    (answers.is, answers.output)
-
-pub write_book_spec : {M : Type 1} → statement M
-write_book_spec =
-    tie.close
-    (tie.spec
-    left-counts-requires
-    (λ c κs. search rules)
-    (λ c. search rules)
-    (λ c. search rules)
-    (λ c κs. search rules)
-    returns
-    (λ c κs. search rules)
-    write-bodies-requires
-    (λ c κs. search rules)
-    (λ c. search rules)
-    returns-2)

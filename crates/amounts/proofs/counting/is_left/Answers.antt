@@ -8,8 +8,7 @@ use lib.Dec.{eqb}
 use borrow.Author.Tests.{ne_eqb}
 use Rattle.ladder.specs.declared.positions.Position.{Position}
 use Rattle.amounts.specs.Inner.Counting.{is_left}
-use Rattle.amounts.proofs.counting.is_left.Statement.{statement}
-use Rattle.amounts.proofs.counting.is_left.Tie as tie
+use Rattle.amounts.proofs.counting.is_left.Goals as goal
 
 by_long : (amounts : Position) → (amounts.long ≡ 0 → ⊥) → true ≡ is_left amounts
 by_long amounts some = sym (ap not (ne_eqb (amounts.long + amounts.short) 0 (λ e. some (omega arith))))
@@ -17,11 +16,8 @@ by_long amounts some = sym (ap not (ne_eqb (amounts.long + amounts.short) 0 (λ 
 by_short : (amounts : Position) → amounts.long ≡ 0 → not (eqb amounts.short 0) ≡ is_left amounts
 by_short amounts none = rw (none, zero-add amounts.short)
 
-returns : tie.Need-returns
-returns c = by_long _ c.if1.true
+pub returns-then-amounts-ne0 : goal.returns-then-amounts-ne0
+returns-then-amounts-ne0 c = by_long _ c.if-amounts-ne0.true
 
-returns-2 : tie.Need-returns-2
-returns-2 c = by_short _ c.before.if1.false
-
-pub is_left_spec : {M : Type 1} → statement M
-is_left_spec = tie.close (tie.spec returns returns-2)
+pub returns : goal.returns
+returns c = by_short _ c.if-amounts-ne0.false
