@@ -3,10 +3,9 @@ use borrow.Author.Rules.{rules}
 use Rattle.sums.proofs.Cases.{as_number}
 use lib.Dec.{eqb}
 use Rattle.shortest.specs.Inner.Places.{one_in}
-use Rattle.shortest.proofs.places.one_in.Statement.{statement}
-use Rattle.shortest.proofs.places.one_in.Tie as tie
+use Rattle.shortest.proofs.places.one_in.Goals as goal
 
-returns : tie.Need-returns
+pub returns : goal.returns
 unfolding one_in
 returns c =
     let class = c.args.class in
@@ -16,6 +15,3 @@ returns c =
       exchange = as_number (eqb class 3) i;
       commodity = as_number (eqb class 4) i;
     }
-
-pub one_in_spec : {M : Type 1} → statement M
-one_in_spec = tie.close (tie.spec (λ c. search rules) (λ c. search rules) (λ c. search rules) (λ c. search rules) returns)
