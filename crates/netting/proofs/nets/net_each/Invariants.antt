@@ -1,0 +1,12 @@
+-- `netting::nets::net_each` meets its contract: the numbers before hold their nets, the others their sums.
+use Prim.Native.Nat.{◌-◌}
+use native.Mathlib.Omega.{arith}
+use borrow.Author.Rules.{rules}
+use Rattle.netting.proofs.Netting.{NettedTo, netted_none, netted_next, netted_all}
+use Rattle.netting.proofs.nets.net_each.Given as goal
+
+abbrev pub invariant-loop-row : goal.invariant-loop-row
+invariant-loop-row l = NettedTo l.initial.longs l.initial.shorts l.row l.longs l.shorts
+
+abbrev pub decreases-loop-row : goal.decreases-loop-row
+decreases-loop-row l = l.rows - l.row
