@@ -14,8 +14,7 @@ use Rattle.book.specs.Inner.Reading.{part_rows}
 use Rattle.book.proofs.Placing.{before-within}
 use Rattle.book.proofs.ClassRows.{class_size, rows_are}
 use Rattle.offsetting.specs.Inner.Pairs.{Dropped}
-use Rattle.offsetting.proofs.drop_interest.Statement.{statement}
-use Rattle.offsetting.proofs.drop_interest.Tie as tie
+use Rattle.offsetting.proofs.drop_interest.Goals as goal
 
 -- read by counts that are the book's own
 module _ {s : List ℕ} (ok : Accepted s) {counts : Counts} (own : counts ≡ counts_of s) {part : List ℕ} (is-part : part ≡ body_by counts s 1) where
@@ -28,15 +27,10 @@ module _ {s : List ℕ} (ok : Accepted s) {counts : Counts} (own : counts ≡ co
   dropped : {longs shorts longs' shorts' : List ℕ} → Dropped (part_rows part) longs shorts longs' shorts' → Dropped (of_class 1 (legs_of s)) longs shorts longs' shorts'
   dropped did = rw interest at did
 
-drop-pairs-requires : tie.Need-drop-pairs-requires
-drop-pairs-requires c κs =
-    let start = c.before.before.before.before in
-    (few start.requires.1 start.requires.0 c.before.before.body.ensures, start.requires.2)
+pub drop_pairs-requires : goal.drop_pairs-requires
+drop_pairs-requires c =
+    (few c.requires.1 c.requires.0 c.body.ensures, c.requires.2)
 
-returns : tie.Need-returns
+pub returns : goal.returns
 returns c =
-    let start = c.before.before.before.before.before in
-    dropped start.requires.1 start.requires.0 c.before.before.before.body.ensures c.drop-pairs.ensures
-
-pub drop_interest_spec : {M : Type 1} → statement M
-drop_interest_spec = tie.close (tie.spec (λ c κs. search rules) drop-pairs-requires returns)
+    dropped c.requires.1 c.requires.0 c.body.ensures c.drop_pairs.ensures

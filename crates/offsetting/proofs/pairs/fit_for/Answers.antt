@@ -19,8 +19,8 @@ use Rattle.amounts.specs.Inner.Standing.{positions_in}
 use Rattle.amounts.specs.Inner.Counting.{is_left}
 use Rattle.offsetting.specs.Inner.Pairs.{fit_from, leg_at, fit_for}
 use Rattle.offsetting.proofs.Searching.{many-rows, other_kind}
-use Rattle.offsetting.proofs.pairs.fit_for.Statement.{statement}
-use Rattle.offsetting.proofs.pairs.fit_for.Tie as tie
+use Rattle.offsetting.proofs.pairs.fit_for.Goals.{After-is_left}
+use Rattle.offsetting.proofs.pairs.fit_for.Goals as goal
 
 module _ (rows : List Row) (f : Bands) (row : ℕ) where
   -- it was dropped
@@ -42,37 +42,19 @@ module _ (rows : List Row) (f : Bands) (row : ℕ) where
     by_search is_leg is-amounts is = is ∙ rw (is_leg, is-amounts, add-one row) (sym searched)
 
 -- whether the row is still there
-left_is : (c : tie.After-is-left) → let start = c.before.before.before in c.is-left.result ≡ is_left (positions_in start.args.longs.now start.args.shorts.now start.args.row)
-left_is c = c.is-left.ensures ∙ ap is_left c.before.amounts-at.ensures
+left_is : (c : After-is_left) → c.is_left.result ≡ is_left (positions_in c.args.longs.now c.args.shorts.now c.args.row)
+left_is c = c.is_left.ensures ∙ ap is_left c.amounts_at-amounts.ensures
 
-returns : tie.Need-returns
-returns c = many-rows _ c.row_count.ensures ∙ by_gone _ _ _ (sym (left_is c.before.before) ∙ not-true _ c.before.if1.true)
+pub returns-then-not-is_left : goal.returns-then-not-is_left
+returns-then-not-is_left c = many-rows _ c.row_count.ensures ∙ by_gone _ _ _ (sym (left_is (goal.at.returns-then-not-is_left c).After-is_left) ∙ c.if-not-is_left.true)
 
-returns-2 : tie.Need-returns-2
-returns-2 c =
-    let there = c.before.before.before.before in
-    let some = sym (left_is there.before) ∙ not-false _ there.if1.false in
-    let other = sym (c.before.before.government.ensures ∙ ap government (c.before.before.before.row_at.ensures ∙ row_is _ _)) ∙ not-true _ c.before.if2.true in
-    many-rows _ c.row-count2.ensures ∙ by_kind _ _ _ some there.before.before.before.before.requires.0 other
+pub returns-then-not-government : goal.returns-then-not-government
+returns-then-not-government c =
+    let some = sym (left_is (goal.at.returns-then-not-government c).After-is_left) ∙ c.if-not-is_left.false in
+    let other = sym (c.government.ensures ∙ ap government (c.row_at-leg.ensures ∙ row_is _ _)) ∙ c.if-not-government.true in
+    many-rows _ c.row_count-then-not-government.ensures ∙ by_kind _ _ _ some c.requires.0 other
 
-returns-3 : tie.Need-returns-3
-returns-3 c =
-    let there = c.before.before.before.before in
-    let some = sym (left_is there.before) ∙ not-false _ there.if1.false in
-    by_search _ _ _ some (c.before.before.before.row_at.ensures ∙ row_is _ _) there.before.before.amounts-at.ensures c.first-fit.ensures
-
-pub fit_for_spec : {M : Type 1} → statement M
-fit_for_spec =
-    tie.close
-    (tie.spec
-    (λ c κs. search rules)
-    (λ c κs. search rules)
-    (λ c κs. search rules)
-    returns
-    (λ c κs. search rules)
-    (λ c κs. search rules)
-    (λ c κs. search rules)
-    returns-2
-    (λ c. search rules)
-    (λ c κs. search rules)
-    returns-3)
+pub returns : goal.returns
+returns c =
+    let some = sym (left_is (goal.at.returns c).After-is_left) ∙ c.if-not-is_left.false in
+    by_search _ _ _ some (c.row_at-leg.ensures ∙ row_is _ _) c.amounts_at-amounts.ensures c.first_fit.ensures

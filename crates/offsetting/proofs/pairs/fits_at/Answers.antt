@@ -9,8 +9,8 @@ use Rattle.ladder.specs.declared.positions.Position.{Position}
 use Rattle.issues.specs.Issues.{holding}
 use Rattle.swaps.specs.Fitting.{government, opposite, near, fits}
 use Rattle.amounts.specs.Inner.Standing.{positions_in}
-use Rattle.offsetting.proofs.pairs.fits_at.Statement.{statement}
-use Rattle.offsetting.proofs.pairs.fits_at.Tie as tie
+use Rattle.offsetting.proofs.pairs.fits_at.Goals.{Start}
+use Rattle.offsetting.proofs.pairs.fits_at.Goals as goal
 
 module _ (leg row : Row) (amounts its : Position) where
   by_long : (amounts.long ≡ its.short → ⊥) → false ≡ fits (holding leg amounts) (holding row its)
@@ -26,37 +26,21 @@ module _ (leg row : Row) (amounts its : Position) where
   by_terms long short = rw (eq-eqb amounts.long its.short long, eq-eqb amounts.short its.long short)
 
 -- the amounts that stand at the row's number
-its : (start : tie.Start) → Position
+its : (start : Start) → Position
 its start = positions_in start.args.longs.now start.args.shorts.now start.args.row
 
-row_there : (start : tie.Start) → Row
+row_there : (start : Start) → Row
 row_there start = row_of start.args.part.now start.args.row
 
-returns : tie.Need-returns
+pub returns-then-amounts-shorts : goal.returns-then-amounts-shorts
 unfolding its row_there
-returns c =
-    let start = c.before.before.before.before in
-    by_long start.args.leg (row_there start) start.args.amounts (its start) c.if1.true
+returns-then-amounts-shorts c =
+    by_long c.args.leg (row_there (goal.at.returns-then-amounts-shorts c).Start) c.args.amounts (its (goal.at.returns-then-amounts-shorts c).Start) c.if-amounts-shorts.true
 
-returns-2 : tie.Need-returns-2
+pub returns-then-amounts-longs : goal.returns-then-amounts-longs
 unfolding its row_there
-returns-2 c =
-    let start = c.before.before.before.before.before.before.before in
-    by_short start.args.leg (row_there start) start.args.amounts (its start) c.before.before.before.if1.false c.if2.true
+returns-then-amounts-longs c =
+    by_short c.args.leg (row_there (goal.at.returns-then-amounts-longs c).Start) c.args.amounts (its (goal.at.returns-then-amounts-longs c).Start) c.if-amounts-shorts.false c.if-amounts-longs.true
 
-returns-3 : tie.Need-returns-3
-returns-3 c = c.near.ensures ∙ ap (near _) c.before.row_at.ensures ∙ by_terms _ _ _ _ c.before.before.before.before.before.if1.false c.before.before.if2.false
-
-pub fits_at_spec : {M : Type 1} → statement M
-fits_at_spec =
-    tie.close
-    (tie.spec
-    (λ c. search rules)
-    (λ c. search rules)
-    returns
-    (λ c. search rules)
-    (λ c. search rules)
-    returns-2
-    (λ c κs. search rules)
-    (λ c κs. search rules)
-    returns-3)
+pub returns : goal.returns
+returns c = c.near.ensures ∙ ap (near _) c.row_at.ensures ∙ by_terms _ _ _ _ c.if-amounts-shorts.false c.if-amounts-longs.false
