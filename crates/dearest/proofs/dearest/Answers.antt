@@ -6,7 +6,7 @@ use Rattle.dearest.specs.Dearest.{limits_refusal}
 use Rattle.dearest.proofs.Whole.{Limits, limits}
 use Rattle.dearest.proofs.Costs.{dearest_fits}
 use Rattle.dearest.proofs.Outcome.{outside, too_short, wrote}
-use Rattle.dearest.proofs.dearest.Goals.{Else-limits_refusal-ne0, Start}
+use Rattle.dearest.proofs.dearest.Goals.{Else-limits_refusal-ne0}
 use Rattle.dearest.proofs.dearest.Goals as goal
 
 pub returns-then-limits_refusal-ne0 : goal.returns-then-limits_refusal-ne0
@@ -15,14 +15,11 @@ returns-then-limits_refusal-ne0 c =
 
 -- the number of rows and the amount are within their limits
 module _ (c : Else-limits_refusal-ne0) where
-  abbrev start : Start
-  start = c.before.before.before
-
-  none_told : (limits_refusal start.args.rows start.args.most).number ≡ 0
+  none_told : (limits_refusal c.args.rows c.args.most).number ≡ 0
   none_told = sym c.limits_refusal.ensures ∙ c.if-limits_refusal-ne0.false
 
-  within : Limits start.args.rows start.args.most
-  within = limits start.args.rows start.args.most none_told
+  within : Limits c.args.rows c.args.most
+  within = limits c.args.rows c.args.most none_told
 
 pub overflow_mul-length : goal.overflow_mul-length
 overflow_mul-length c = record { fits = omega (arith, (within (goal.at.overflow_mul-length c).Else-limits_refusal-ne0).few) }
@@ -32,7 +29,7 @@ overflow_add-length c = record { fits = omega (arith, (within (goal.at.overflow_
 
 pub returns-then-out-length : goal.returns-then-out-length
 returns-then-out-length c =
-    too_short (start (goal.at.returns-then-out-length c).Else-limits_refusal-ne0).args.rows (start (goal.at.returns-then-out-length c).Else-limits_refusal-ne0).args.most (start (goal.at.returns-then-out-length c).Else-limits_refusal-ne0).args.out.now (none_told (goal.at.returns-then-out-length c).Else-limits_refusal-ne0) (omega arith) c.answer-then-out-length.ensures
+    too_short c.args.rows c.args.most c.args.out.now (none_told (goal.at.returns-then-out-length c).Else-limits_refusal-ne0) (omega arith) c.answer-then-out-length.ensures
 
 pub write_book-requires : goal.write_book-requires
 write_book-requires c = ((within (goal.at.write_book-requires c).Else-limits_refusal-ne0).few, (within (goal.at.write_book-requires c).Else-limits_refusal-ne0).within, omega arith)
@@ -47,5 +44,5 @@ overflow_mul-rows-2 c =
 
 pub returns : goal.returns
 returns c =
-    wrote (start (goal.at.returns c).Else-limits_refusal-ne0).args.rows (start (goal.at.returns c).Else-limits_refusal-ne0).args.most (start (goal.at.returns c).Else-limits_refusal-ne0).args.out.now (none_told (goal.at.returns c).Else-limits_refusal-ne0) (omega arith) c.answer-2.ensures
+    wrote c.args.rows c.args.most c.args.out.now (none_told (goal.at.returns c).Else-limits_refusal-ne0) (omega arith) c.answer-2.ensures
     c.write_book.ensures
