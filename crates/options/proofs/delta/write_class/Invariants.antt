@@ -1,0 +1,12 @@
+-- `options::delta::write_class` meets its contract: the rows before are written.
+use Prim.Native.Nat.{◌-◌}
+use native.Mathlib.Omega.{arith}
+use Rattle.options.proofs.Walking.{each_taken}
+use Rattle.options.proofs.Bytes.{Rows, no_rows, same_room, one_fits, one_more, all_rows}
+use Rattle.options.proofs.delta.write_class.Given as goal
+
+abbrev pub invariant-loop-row : goal.invariant-loop-row
+invariant-loop-row l = Rows l.class l.table l.many l.at l.initial.out l.out l.end l.row
+
+abbrev pub decreases-loop-row : goal.decreases-loop-row
+decreases-loop-row l = l.many - l.row
