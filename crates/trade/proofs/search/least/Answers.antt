@@ -1,0 +1,14 @@
+-- `trade::search::least` meets its contract: nothing to add, or the least amount before the turn, or after it.
+use mathlib.Core.Path.{sym, ◌∙◌}
+use native.Mathlib.Omega.{arith}
+use borrow.Author.Rules.{rules}
+use Rattle.trade.proofs.Searching.{found_at}
+use Rattle.trade.proofs.Halving.{no_weight}
+use Rattle.trade.proofs.search.least.Goals as goal
+
+pub returns-then-charge-limit : goal.returns-then-charge-limit
+returns-then-charge-limit c = c.found.ensures ∙ sym (found_at _ _ 0 (omega arith) (omega (arith, c.charge.ensures)) (λ j h. omega arith))
+
+pub returns-then-opened-eq0 : goal.returns-then-opened-eq0
+returns-then-opened-eq0 c =
+    c.none.ensures ∙ sym (no_weight _ c.if-opened-eq0.true _ (omega (arith, c.charge.ensures)))
