@@ -1,5 +1,7 @@
-// The calls for programs in other languages: each writes every entry of its result.
+// The calls for programs in other languages, which market_risk_c exports: each writes every entry
+// of its result.
 #![tactic(auto)]
+
 mod writing;
 
 ghost use Rattle.std.specs.Prelude.{◌≡◌, ◌+◌, ◌≤◌, length as len};
@@ -12,12 +14,16 @@ ghost use Rattle.charges.specs.SmallBank.{small_bank_of};
 ghost use Rattle.trade.specs.Trade.{least_trade_of};
 ghost use Rattle.market_risk.specs.Entries.{refusal_entries, handed_entries, report_entries, interest_entries, commodity_entries, small_entries, trade_entries};
 
+pub use writing::{
+    market_risk_dearest, market_risk_join, market_risk_net, market_risk_net_and_offset,
+    market_risk_offset, market_risk_options, market_risk_shortest,
+};
+
 // The entries of a report: its refusal and figures, and two for each currency.
-const REPORT: usize = 75;
+pub const REPORT: usize = 75;
 
 // The refusal of a book.
-#[unsafe(no_mangle)]
-pub extern "C" fn market_risk_check(book: &[u8], out: &mut [u64; 3])
+pub fn market_risk_check(book: &[u8], out: &mut [u64; 3])
     ensures { out.new ≡ refusal_entries (refusal_of book.now) }
 {
     let refusal = book::check(book);
@@ -29,8 +35,7 @@ pub extern "C" fn market_risk_check(book: &[u8], out: &mut [u64; 3])
 }
 
 // Where the rows of a class lie in a book.
-#[unsafe(no_mangle)]
-pub extern "C" fn market_risk_part(book: &[u8], class: usize, out: &mut [u64; 5])
+pub fn market_risk_part(book: &[u8], class: usize, out: &mut [u64; 5])
     ensures { out.new ≡ handed_entries (handed_of book.now class) }
 {
     let handed = book::hand(book, class);
@@ -44,16 +49,14 @@ pub extern "C" fn market_risk_part(book: &[u8], class: usize, out: &mut [u64; 5]
 }
 
 // Document 01's table.
-#[unsafe(no_mangle)]
-pub extern "C" fn market_risk_table(out: &mut [u8; 36])
+pub fn market_risk_table(out: &mut [u8; 36])
     ensures { out.new ≡ standard_bytes }
 {
     *out = table::standard();
 }
 
 // The report of a book, by a table.
-#[unsafe(no_mangle)]
-pub extern "C" fn market_risk_charge(book: &[u8], table: &[u8], out: &mut [u64; REPORT])
+pub fn market_risk_charge(book: &[u8], table: &[u8], out: &mut [u64; REPORT])
     ensures { out.new ≡ report_entries (report_of table.now book.now) }
 {
     let report = charges::charge(book, table);
@@ -91,13 +94,7 @@ fn write_entries(entries: &[u64], out: &mut [u64; REPORT], at: usize)
 }
 
 // The interest ladder of a currency, by a table.
-#[unsafe(no_mangle)]
-pub extern "C" fn market_risk_interest_ladder(
-    book: &[u8],
-    table: &[u8],
-    group: usize,
-    out: &mut [u64; 13],
-)
+pub fn market_risk_interest_ladder(book: &[u8], table: &[u8], group: usize, out: &mut [u64; 13])
     ensures { out.new ≡ interest_entries (interest_ladder_of table.now book.now group) }
 {
     let ladder = charges::interest_ladder(book, table, group);
@@ -119,8 +116,7 @@ pub extern "C" fn market_risk_interest_ladder(
 }
 
 // The ladder of a commodity.
-#[unsafe(no_mangle)]
-pub extern "C" fn market_risk_commodity_ladder(book: &[u8], group: usize, out: &mut [u64; 7])
+pub fn market_risk_commodity_ladder(book: &[u8], group: usize, out: &mut [u64; 7])
     ensures { out.new ≡ commodity_entries (commodity_ladder_of book.now group) }
 {
     let ladder = charges::commodity_ladder(book, group);
@@ -136,8 +132,7 @@ pub extern "C" fn market_risk_commodity_ladder(book: &[u8], group: usize, out: &
 }
 
 // The figures of a bank with foreign exchange and commodities alone.
-#[unsafe(no_mangle)]
-pub extern "C" fn market_risk_small_bank(book: &[u8], out: &mut [u64; 6])
+pub fn market_risk_small_bank(book: &[u8], out: &mut [u64; 6])
     ensures { out.new ≡ small_entries (small_bank_of book.now) }
 {
     let bank = charges::small_bank(book);
@@ -151,9 +146,9 @@ pub extern "C" fn market_risk_small_bank(book: &[u8], out: &mut [u64; 6])
     ];
 }
 
-// The least amount that, added to a side of a band, brings a currency's charge within a limit, by a table.
-#[unsafe(no_mangle)]
-pub extern "C" fn market_risk_least_trade(
+// The least amount that, added to a side of a band, brings a currency's charge within a limit, by a
+// table.
+pub fn market_risk_least_trade(
     book: &[u8],
     table: &[u8],
     group: usize,

@@ -25,8 +25,7 @@ fn entries(refusal: Refusal, length: usize, figure: u64) -> [u64; 5]
 }
 
 // Joins two books into out: bytes past the joined book keep their values, of a refused join all do.
-#[unsafe(no_mangle)]
-pub extern "C" fn market_risk_join(a: &[u8], b: &[u8], out: &mut [u8], res: &mut [u64; 4])
+pub fn market_risk_join(a: &[u8], b: &[u8], out: &mut [u8], res: &mut [u64; 4])
     ensures out_after { out.new ≡ join_output a.now b.now out.old }
     ensures res_after { res.new ≡ joined_entries (joined_of a.now b.now (len out.old)) }
 {
@@ -39,9 +38,9 @@ pub extern "C" fn market_risk_join(a: &[u8], b: &[u8], out: &mut [u8], res: &mut
     ];
 }
 
-// Nets the issues of a book into out: bytes past the netted book keep their values, of a refused call all do.
-#[unsafe(no_mangle)]
-pub extern "C" fn market_risk_net(book: &[u8], out: &mut [u8], res: &mut [u64; 5])
+// Nets the issues of a book into out: bytes past the netted book keep their values, of a refused
+// call all do.
+pub fn market_risk_net(book: &[u8], out: &mut [u8], res: &mut [u64; 5])
     ensures out_after { out.new ≡ netting_output book.now out.old }
     ensures res_after { res.new ≡ netted_entries (netted_of book.now (len out.old)) }
 {
@@ -49,9 +48,9 @@ pub extern "C" fn market_risk_net(book: &[u8], out: &mut [u8], res: &mut [u64; 5
     *res = entries(netted.refusal, netted.length, netted.comparisons as u64);
 }
 
-// Writes a book without its fitting swap legs into out: bytes past it keep their values, of a refused call all do.
-#[unsafe(no_mangle)]
-pub extern "C" fn market_risk_offset(book: &[u8], out: &mut [u8], res: &mut [u64; 4])
+// Writes a book without its fitting swap legs into out: bytes past it keep their values, of a
+// refused call all do.
+pub fn market_risk_offset(book: &[u8], out: &mut [u8], res: &mut [u64; 4])
     ensures out_after { out.new ≡ offsetting_output book.now out.old }
     ensures res_after { res.new ≡ written_entries (offset_of book.now (len out.old)) }
 {
@@ -64,9 +63,9 @@ pub extern "C" fn market_risk_offset(book: &[u8], out: &mut [u8], res: &mut [u64
     ];
 }
 
-// Nets the issues of a book and then drops its fitting swap legs, into out: bytes past the result keep their values, of a refused call all do.
-#[unsafe(no_mangle)]
-pub extern "C" fn market_risk_net_and_offset(book: &[u8], out: &mut [u8], res: &mut [u64; 5])
+// Nets the issues of a book and then drops its fitting swap legs, into out: bytes past the result
+// keep their values, of a refused call all do.
+pub fn market_risk_net_and_offset(book: &[u8], out: &mut [u8], res: &mut [u64; 5])
     ensures out_after { out.new ≡ net_offset_output book.now out.old }
     ensures res_after { res.new ≡ netted_entries (net_offset_of book.now (len out.old)) }
 {
@@ -74,10 +73,9 @@ pub extern "C" fn market_risk_net_and_offset(book: &[u8], out: &mut [u8], res: &
     *res = entries(both.refusal, both.length, both.comparisons as u64);
 }
 
-// From a refused book writes the shortest file that is refused with the same number into out: bytes past it keep their values, of a refused call
-// all do.
-#[unsafe(no_mangle)]
-pub extern "C" fn market_risk_shortest(book: &[u8], out: &mut [u8], res: &mut [u64; 5])
+// From a refused book writes the shortest file that is refused with the same number into out: bytes
+// past it keep their values, of a refused call all do.
+pub fn market_risk_shortest(book: &[u8], out: &mut [u8], res: &mut [u64; 5])
     ensures out_after { out.new ≡ shortest_output book.now out.old }
     ensures res_after { res.new ≡ shown_entries (shortest_of book.now (len out.old)) }
 {
@@ -85,9 +83,9 @@ pub extern "C" fn market_risk_shortest(book: &[u8], out: &mut [u8], res: &mut [u
     *res = entries(shown.refusal, shown.length, shown.accepted as u64);
 }
 
-// Writes the dearest book of so many rows of at most an amount each into out: bytes past it keep their values, of a refused call all do.
-#[unsafe(no_mangle)]
-pub extern "C" fn market_risk_dearest(rows: usize, most: u64, out: &mut [u8], res: &mut [u64; 5])
+// Writes the dearest book of so many rows of at most an amount each into out: bytes past it keep
+// their values, of a refused call all do.
+pub fn market_risk_dearest(rows: usize, most: u64, out: &mut [u8], res: &mut [u64; 5])
     ensures out_after { out.new ≡ dearest_output rows most out.old }
     ensures res_after { res.new ≡ costed_entries (dearest_of rows most (len out.old)) }
 {
@@ -95,9 +93,9 @@ pub extern "C" fn market_risk_dearest(rows: usize, most: u64, out: &mut [u8], re
     *res = entries(costed.refusal, costed.length, costed.total);
 }
 
-// Writes the book of an option table's deltas into out, and charges gamma, vega and the book: bytes past it keep their values, of a refused call all do.
-#[unsafe(no_mangle)]
-pub extern "C" fn market_risk_options(table: &[u8], out: &mut [u8], res: &mut [u64; 17])
+// Writes the book of an option table's deltas into out, and charges gamma, vega and the book: bytes
+// past it keep their values, of a refused call all do.
+pub fn market_risk_options(table: &[u8], out: &mut [u8], res: &mut [u64; 17])
     ensures out_after { out.new ≡ pricing_output table.now out.old }
     ensures res_after { res.new ≡ priced_entries (priced_of table.now (len out.old)) }
 {

@@ -7,8 +7,7 @@ use borrow.Author.Rules.{rules}
 use Rattle.options.specs.declared.Priced.{Priced}
 use Rattle.options.specs.Options.{by_class, priced_of}
 use Rattle.market_risk.specs.Entries.{refusal_entries, report_figures, priced_entries}
-use Rattle.market_risk.proofs.writing.market_risk_options.Statement.{statement}
-use Rattle.market_risk.proofs.writing.market_risk_options.Tie as tie
+use Rattle.market_risk.proofs.writing.market_risk_options.Goals as goal
 
 -- the entries one by one
 abbrev one_by_one : Priced → List ℕ
@@ -24,25 +23,6 @@ all_entries : (table : List ℕ) (room : ℕ) → one_by_one (priced_of table ro
 unfolding by_class priced_of refusal_entries report_figures priced_entries
 all_entries table room = refl
 
-returns : tie.Need-returns
+pub returns : goal.returns
 returns c =
-    let call = c.before.before.before.before.before.before.before.before.before in
-    let start = call.before.before.before.before in
-    (call.options.ensures.1, ap one_by_one call.options.ensures.0 ∙ all_entries start.args.table.now (length start.args.out.now))
-
-pub market_risk_options_spec : {M : Type 1} → statement M
-market_risk_options_spec =
-    tie.close
-    (tie.spec
-    (λ c. search rules)
-    (λ c. search rules)
-    (λ c. search rules)
-    (λ c. search rules)
-    (λ c. search rules)
-    (λ c. search rules)
-    (λ c. search rules)
-    (λ c. search rules)
-    (λ c. search rules)
-    (λ c. search rules)
-    (λ c. search rules)
-    returns)
+    record { out_after = c.options-priced.ensures.1; res_after = ap one_by_one c.options-priced.ensures.0 ∙ all_entries c.args.table.now (length c.args.out.now) }

@@ -10,16 +10,16 @@ use Rattle.layout.proofs.Writing.{written-length, written-more, written-whole}
 use Rattle.charges.specs.declared.Report.{Report}
 use Rattle.charges.proofs.Reporting.{ListsSized, lists_sized}
 use Rattle.market_risk.specs.Entries.{refusal_entries, report_figures, report_entries}
-use Rattle.market_risk.proofs.market_risk_charge.Statement.{statement}
-use Rattle.market_risk.proofs.market_risk_charge.Tie as tie
+use Rattle.market_risk.proofs.market_risk_charge.Goals.{After-charge-report}
+use Rattle.market_risk.proofs.market_risk_charge.Goals as goal
 
 -- the refusal, the figures and the rows taken
 abbrev figures : Report → List ℕ
 figures report = refusal_entries report.refusal ++ (report_figures report ++ (report.taken ∷ []))
 
 -- the report that the library gave has its 32 entries in each list
-sized : (c : tie.After-charge) → ListsSized c.charge.result
-sized c = rw c.charge.ensures (lists_sized _ _)
+sized : (c : After-charge-report) → ListsSized c.charge-report.result
+sized c = rw c.charge-report.ensures (lists_sized _ _)
 
 -- the output stays as long as it is
 first-sized : (report : Report) {out1 : List ℕ} → out1 ≡ written (replicate 75 0) 0 (figures report) → length out1 ≡ 75
@@ -42,51 +42,27 @@ entries_in_steps report many e1 e2 e3 =
     ∙ written-whole (replicate 75 0) (lists ++ report.generals) all
     ∙ append_assoc (figures report) report.specifics report.generals
 
-slice-aggregate-write-entries-2 : tie.Need-slice-aggregate-write-entries-2
-slice-aggregate-write-entries-2 c = sym (sized c.before.before.before.before.before.before.before.before.before.before).specifics_many
+pub slice_bounds-write_entries-end-2 : goal.slice_bounds-write_entries-end-2
+slice_bounds-write_entries-end-2 c = sym (sized (goal.at.slice_bounds-write_entries-end-2 c).After-charge-report).specifics_many
 
-write-entries-requires-2 : tie.Need-write-entries-requires-2
+pub write_entries-requires-2 : goal.write_entries-requires-2
 unfolding refusal_entries report_figures
-write-entries-requires-2 c κs =
-    let first = c.before.before in
-    let charged = first.before.before.before.before.before.before.before.before.before in
-    (first-sized charged.charge.result first.write_entries.ensures, omega (arith, (sized charged).specifics_many))
+write_entries-requires-2 c =
+    (first-sized c.charge-report.result c.write_entries.ensures, omega (arith, (sized (goal.at.write_entries-requires-2 c).After-charge-report).specifics_many))
 
-slice-aggregate-write-entries-3 : tie.Need-slice-aggregate-write-entries-3
-slice-aggregate-write-entries-3 c = sym (sized c.before.before.before.before.before.before.before.before.before.before.before.before.before).generals_many
+pub slice_bounds-write_entries-end-3 : goal.slice_bounds-write_entries-end-3
+slice_bounds-write_entries-end-3 c = sym (sized (goal.at.slice_bounds-write_entries-end-3 c).After-charge-report).generals_many
 
-write-entries-requires-3 : tie.Need-write-entries-requires-3
+pub write_entries-requires-3 : goal.write_entries-requires-3
 unfolding refusal_entries report_figures
-write-entries-requires-3 c κs =
-    let second = c.before.before in
-    let first = second.before.before.before in
-    let charged = first.before.before.before.before.before.before.before.before.before in
-    let report = charged.charge.result in (
-      second-sized report (sized charged) _ (first-sized report first.write_entries.ensures) second.write-entries2.ensures,
-      omega (arith, (sized charged).generals_many),
+write_entries-requires-3 c =
+    let report = c.charge-report.result in (
+      second-sized report (sized (goal.at.write_entries-requires-3 c).After-charge-report) _ (first-sized report c.write_entries.ensures) c.write_entries-2.ensures,
+      omega (arith, (sized (goal.at.write_entries-requires-3 c).After-charge-report).generals_many),
     )
 
-returns : tie.Need-returns
+pub returns : goal.returns
 unfolding refusal_entries report_figures
 returns c =
-    let second = c.before.before.before in
-    let first = second.before.before.before in
-    let charged = first.before.before.before.before.before.before.before.before.before in
-    entries_in_steps charged.charge.result (sized charged) first.write_entries.ensures second.write-entries2.ensures c.write-entries3.ensures
-    ∙ ap report_entries charged.charge.ensures
-
-pub market_risk_charge_spec : {M : Type 1} → statement M
-market_risk_charge_spec =
-    tie.close
-    (tie.spec
-    (λ c. search rules)
-    (λ c. search rules)
-    (λ c. search rules)
-    (λ c. search rules)
-    (λ c. search rules)
-    (λ c. search rules)
-    slice-aggregate-write-entries-2
-    write-entries-requires-2
-    slice-aggregate-write-entries-3
-    write-entries-requires-3
-    returns)
+    entries_in_steps c.charge-report.result (sized (goal.at.returns c).After-charge-report) c.write_entries.ensures c.write_entries-2.ensures c.write_entries-3.ensures
+    ∙ ap report_entries c.charge-report.ensures

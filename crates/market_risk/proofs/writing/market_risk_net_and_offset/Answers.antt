@@ -1,0 +1,11 @@
+-- `market_risk_net_and_offset` meets its contract: the entries are those of the answer, and the output is the call's.
+use mathlib.Core.Path.{ap, ◌∙◌}
+use borrow.Author.Rules.{rules}
+use Rattle.market_risk.specs.Entries.{netted_entries}
+use Rattle.market_risk.proofs.writing.market_risk_net_and_offset.Goals as goal
+
+pub returns : goal.returns
+unfolding netted_entries
+returns c =
+    let answer = c.net_and_offset-both.ensures in
+    record { out_after = answer.1; res_after = c.entries.ensures ∙ ap netted_entries answer.0 }
