@@ -3,7 +3,7 @@
 use Prim.Native.Nat.{ℕ, ◌+◌, ◌*◌, ◌≤◌, ◌<◌}
 use mathlib.Core.Path.{◌≡◌, refl, ap, ◌∙◌, fun_ext}
 use mathlib.Core.List.Perm
-use mathlib.Core.List.{List, ◌++◌, map, filter-append, filter_map, Perm, Memᴰ}
+use mathlib.Core.List.{List, ◌++◌, map, filter-append, filter-map, Perm, Memᴰ}
 use native.Mathlib.Decide.{ℕ_discrete}
 use native.Mathlib.Nat.{add_comm}
 use native.Mathlib.Omega.{arith}
@@ -157,5 +157,5 @@ currencies-invariant cost same =
     record {
       permuted = λ p. ap (λ (f : ℕ → ℕ). map f groups) (fun_ext (λ g. same.permuted (Perm.filter (λ row. ℕ_discrete row.group g) p)));
       mirrored = λ rows. ap (λ (f : ℕ → ℕ). map f groups)
-          (fun_ext (λ g. ap cost (filter_map (λ row. ℕ_discrete row.group g) mirrored_leg rows) ∙ same.mirrored (of_group g rows)));
+          (fun_ext (λ g. ap cost (filter-map (λ row. ℕ_discrete row.group g) mirrored_leg rows) ∙ same.mirrored (of_group g rows)));
     }

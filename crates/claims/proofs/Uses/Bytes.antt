@@ -70,6 +70,7 @@ stays_says (dropped some new kept) row (Memᴰ.head own) zero-issue = absurd (so
 stays_says (dropped some new kept) row (Memᴰ.tail after) zero-issue = stays_says kept row after zero-issue
 stays_says (later some old kept) row (Memᴰ.head own) zero-issue = absurd (some (rw own at zero-issue))
 stays_says (later some old kept) row (Memᴰ.tail after) zero-issue = stays_says kept row after zero-issue
+stays_says (no_rows {seen = seen}) row x9 zero-issue = elim x9 [ ]
 
 -- of two rows of one issue the first alone is written for
 seen_first : (first issue : ℕ) → issue ≡ first → has (first ∷ []) issue ≡ false → ⊥

@@ -140,6 +140,7 @@ other_among row (first ∷ rows) (Memᴰ.tail after) other = go (eqb first.kind 
         → Memᴰ row (cond test (other_kinds rows) (first ∷ other_kinds rows))
     go true member = member
     go false member = Memᴰ.tail member
+other_among row [] x'' other = elim x'' [ ]
 
 among_others : (row : Row) (rows : List Row) → Memᴰ row (other_kinds rows) → Memᴰ row rows
 unfolding other_kinds
