@@ -3,185 +3,199 @@ ghost use Rattle.std.specs.Prelude.{◌<◌};
 
 use book::Refusal;
 use charges::Report;
-use libc::STDOUT_FILENO;
 use netting::Netted;
+use std::io;
+use std::io::Write;
 
-fn start(name: &[u8], refusal: Refusal) {
-    io::write_all(STDOUT_FILENO, name);
-    figure(refusal.number as u64);
-    figure(refusal.row as u64);
-    figure(refusal.book as u64);
+fn start(to: &mut impl Write, name: &[u8], refusal: Refusal) -> io::Result<()> {
+    to.write_all(name)?;
+    figure(to, refusal.number as u64)?;
+    figure(to, refusal.row as u64)?;
+    figure(to, refusal.book as u64)
 }
 
-fn figure(value: u64) {
-    io::write_all(STDOUT_FILENO, b" ");
-    io::print_decimal(STDOUT_FILENO, value);
+fn figure(to: &mut impl Write, value: u64) -> io::Result<()> {
+    write!(to, " {value}")
 }
 
 // The figures of all currencies.
-fn list(values: [u64; 32]) {
+fn list(to: &mut impl Write, values: [u64; 32]) -> io::Result<()> {
     for currency in 0..32usize {
-        figure(values[currency]);
+        figure(to, values[currency])?;
     }
+    Ok(())
 }
 
 // The figures of equity, foreign exchange and commodities.
-fn triple(values: [u64; 3]) {
-    figure(values[0]);
-    figure(values[1]);
-    figure(values[2]);
+fn triple(to: &mut impl Write, values: [u64; 3]) -> io::Result<()> {
+    figure(to, values[0])?;
+    figure(to, values[1])?;
+    figure(to, values[2])
 }
 
 // The six charges and the total.
-fn figures(report: Report) {
-    figure(report.interest.specific);
-    figure(report.interest.general);
-    figure(report.equity.specific);
-    figure(report.equity.general);
-    figure(report.exchange);
-    figure(report.commodity);
-    figure(report.total);
+fn figures(to: &mut impl Write, report: Report) -> io::Result<()> {
+    figure(to, report.interest.specific)?;
+    figure(to, report.interest.general)?;
+    figure(to, report.equity.specific)?;
+    figure(to, report.equity.general)?;
+    figure(to, report.exchange)?;
+    figure(to, report.commodity)?;
+    figure(to, report.total)
 }
 
-fn end() {
-    io::write_all(STDOUT_FILENO, b"\n");
+fn end(to: &mut impl Write) -> io::Result<()> {
+    to.write_all(b"\n")
 }
 
-pub fn check(book: &[u8]) {
-    start(b"check", book::check(book));
-    end();
+pub fn check(to: &mut impl Write, book: &[u8]) -> io::Result<()> {
+    start(to, b"check", book::check(book))?;
+    end(to)
 }
 
-pub fn charge(book: &[u8], table: &[u8]) {
+pub fn charge(to: &mut impl Write, book: &[u8], table: &[u8]) -> io::Result<()> {
     let report = charges::charge(book, table);
-    start(b"charge", report.refusal);
-    figures(report);
-    figure(report.taken as u64);
+    start(to, b"charge", report.refusal)?;
+    figures(to, report)?;
+    figure(to, report.taken as u64)?;
     let specifics = report.specifics;
-    list(specifics);
+    list(to, specifics)?;
     let generals = report.generals;
-    list(generals);
-    end();
+    list(to, generals)?;
+    end(to)
 }
 
-pub fn interest_ladder(book: &[u8], table: &[u8], group: usize) {
+pub fn interest_ladder(
+    to: &mut impl Write,
+    book: &[u8],
+    table: &[u8],
+    group: usize,
+) -> io::Result<()> {
     let ladder = charges::interest_ladder(book, table, group);
-    start(b"interest-ladder", ladder.refusal);
-    figure(ladder.figures.matches.gross);
-    figure(ladder.figures.matches.vertical);
-    figure(ladder.figures.matches.zone1);
-    figure(ladder.figures.matches.zone2);
-    figure(ladder.figures.matches.zone3);
-    figure(ladder.figures.matches.zones12);
-    figure(ladder.figures.matches.zones23);
-    figure(ladder.figures.matches.zones13);
-    figure(ladder.figures.matches.residual);
-    figure(ladder.figures.charge);
-    end();
+    start(to, b"interest-ladder", ladder.refusal)?;
+    figure(to, ladder.figures.matches.gross)?;
+    figure(to, ladder.figures.matches.vertical)?;
+    figure(to, ladder.figures.matches.zone1)?;
+    figure(to, ladder.figures.matches.zone2)?;
+    figure(to, ladder.figures.matches.zone3)?;
+    figure(to, ladder.figures.matches.zones12)?;
+    figure(to, ladder.figures.matches.zones23)?;
+    figure(to, ladder.figures.matches.zones13)?;
+    figure(to, ladder.figures.matches.residual)?;
+    figure(to, ladder.figures.charge)?;
+    end(to)
 }
 
-pub fn commodity_ladder(book: &[u8], group: usize) {
+pub fn commodity_ladder(to: &mut impl Write, book: &[u8], group: usize) -> io::Result<()> {
     let ladder = charges::commodity_ladder(book, group);
-    start(b"commodity-ladder", ladder.refusal);
-    figure(ladder.figures.matches);
-    figure(ladder.figures.carried);
-    figure(ladder.figures.residual);
-    figure(ladder.figures.charge);
-    end();
+    start(to, b"commodity-ladder", ladder.refusal)?;
+    figure(to, ladder.figures.matches)?;
+    figure(to, ladder.figures.carried)?;
+    figure(to, ladder.figures.residual)?;
+    figure(to, ladder.figures.charge)?;
+    end(to)
 }
 
-pub fn small_bank(book: &[u8]) {
+pub fn small_bank(to: &mut impl Write, book: &[u8]) -> io::Result<()> {
     let bank = charges::small_bank(book);
-    start(b"small-bank", bank.refusal);
-    figure(bank.exchange);
-    figure(bank.commodity);
-    figure(bank.total);
-    end();
+    start(to, b"small-bank", bank.refusal)?;
+    figure(to, bank.exchange)?;
+    figure(to, bank.commodity)?;
+    figure(to, bank.total)?;
+    end(to)
 }
 
 // Document 01's table, byte by byte.
-pub fn standard_table() {
+pub fn standard_table(to: &mut impl Write) -> io::Result<()> {
     let table = table::standard();
-    io::write_all(STDOUT_FILENO, b"table");
+    to.write_all(b"table")?;
     for i in 0..36usize {
-        figure(wide(table[i]));
+        figure(to, wide(table[i]))?;
     }
-    end();
+    end(to)
 }
 
-pub fn join(a: &[u8], b: &[u8], out: &mut [u8]) {
+pub fn join(to: &mut impl Write, a: &[u8], b: &[u8], out: &mut [u8]) -> io::Result<()> {
     let joined = join::join(a, b, out);
-    start(b"join", joined.refusal);
-    figure(joined.length as u64);
-    figure(checksum(out));
-    end();
+    start(to, b"join", joined.refusal)?;
+    figure(to, joined.length as u64)?;
+    figure(to, checksum(out))?;
+    end(to)
 }
 
-pub fn net(book: &[u8], out: &mut [u8]) {
+pub fn net(to: &mut impl Write, book: &[u8], out: &mut [u8]) -> io::Result<()> {
     let answer = netting::net(book, out);
-    netted(b"net", answer, out);
+    netted(to, b"net", answer, out)
 }
 
-pub fn net_and_offset(book: &[u8], out: &mut [u8]) {
+pub fn net_and_offset(to: &mut impl Write, book: &[u8], out: &mut [u8]) -> io::Result<()> {
     let answer = offsetting::net_and_offset(book, out);
-    netted(b"net-and-offset", answer, out);
+    netted(to, b"net-and-offset", answer, out)
 }
 
 // The line of a call that nets.
-fn netted(name: &[u8], answer: Netted, out: &[u8]) {
-    start(name, answer.refusal);
-    figure(answer.length as u64);
-    figure(answer.comparisons as u64);
-    figure(checksum(out));
-    end();
+fn netted(to: &mut impl Write, name: &[u8], answer: Netted, out: &[u8]) -> io::Result<()> {
+    start(to, name, answer.refusal)?;
+    figure(to, answer.length as u64)?;
+    figure(to, answer.comparisons as u64)?;
+    figure(to, checksum(out))?;
+    end(to)
 }
 
-pub fn offset(book: &[u8], out: &mut [u8]) {
+pub fn offset(to: &mut impl Write, book: &[u8], out: &mut [u8]) -> io::Result<()> {
     let left = offsetting::offset(book, out);
-    start(b"offset", left.refusal);
-    figure(left.length as u64);
-    figure(checksum(out));
-    end();
+    start(to, b"offset", left.refusal)?;
+    figure(to, left.length as u64)?;
+    figure(to, checksum(out))?;
+    end(to)
 }
 
-pub fn shortest(book: &[u8], out: &mut [u8]) {
+pub fn shortest(to: &mut impl Write, book: &[u8], out: &mut [u8]) -> io::Result<()> {
     let shown = shortest::shortest(book, out);
-    start(b"shortest", shown.refusal);
-    figure(shown.length as u64);
-    figure(shown.accepted as u64);
-    figure(checksum(out));
-    end();
+    start(to, b"shortest", shown.refusal)?;
+    figure(to, shown.length as u64)?;
+    figure(to, shown.accepted as u64)?;
+    figure(to, checksum(out))?;
+    end(to)
 }
 
-pub fn least_trade(book: &[u8], table: &[u8], group: usize, band: usize, side: usize, limit: u64) {
+pub fn least_trade(
+    to: &mut impl Write,
+    book: &[u8],
+    table: &[u8],
+    group: usize,
+    band: usize,
+    side: usize,
+    limit: u64,
+) -> io::Result<()> {
     let trade = trade::least_trade(book, table, group, band, side, limit);
-    start(b"least-trade", trade.refusal);
-    figure(trade.least.found as u64);
-    figure(trade.least.amount);
-    end();
+    start(to, b"least-trade", trade.refusal)?;
+    figure(to, trade.least.found as u64)?;
+    figure(to, trade.least.amount)?;
+    end(to)
 }
 
-pub fn options(table: &[u8], out: &mut [u8]) {
+pub fn options(to: &mut impl Write, table: &[u8], out: &mut [u8]) -> io::Result<()> {
     let priced = options::options(table, out);
-    start(b"options", priced.refusal);
-    figure(priced.length as u64);
+    start(to, b"options", priced.refusal)?;
+    figure(to, priced.length as u64)?;
     let gammas = priced.gammas;
-    triple(gammas);
+    triple(to, gammas)?;
     let vegas = priced.vegas;
-    triple(vegas);
+    triple(to, vegas)?;
     let report = priced.report;
-    figures(report);
-    figure(checksum(out));
-    end();
+    figures(to, report)?;
+    figure(to, checksum(out))?;
+    end(to)
 }
 
-pub fn dearest(rows: usize, most: u64, out: &mut [u8]) {
+pub fn dearest(to: &mut impl Write, rows: usize, most: u64, out: &mut [u8]) -> io::Result<()> {
     let costed = dearest::dearest(rows, most, out);
-    start(b"dearest", costed.refusal);
-    figure(costed.length as u64);
-    figure(costed.total);
-    figure(checksum(out));
-    end();
+    start(to, b"dearest", costed.refusal)?;
+    figure(to, costed.length as u64)?;
+    figure(to, costed.total)?;
+    figure(to, checksum(out))?;
+    end(to)
 }
 
 fn wide(byte: u8) -> u64

@@ -1,0 +1,6 @@
+-- `vectors::lines::checksum` is safe: the sum stays below its modulus.
+use Rattle.std.proofs.Common.{◌<◌}
+use Rattle.vectors.proofs.lines.checksum.Given as goal
+
+abbrev pub invariant-loop-i : goal.invariant-loop-i
+invariant-loop-i l = l.sum < 1000000007
