@@ -36,7 +36,8 @@ pub fn read_u64(from: &mut impl Read) -> io::Result<u64> {
     Ok(low as u64 + 4294967296 * (high as u64))
 }
 
-// A book of so many bytes to the front of buf: how many bytes of it there were, none where buf is too short.
+// A book of so many bytes to the front of buf: how many bytes of it there were, none where buf is
+// too short.
 pub fn read_book(
     from: &mut impl Read,
     buf: &mut [u8],
@@ -55,7 +56,8 @@ pub fn read_book(
     }
 }
 
-// A book that is stored as its first 8 bytes and runs of equal rows: how many bytes of it there were.
+// A book that is stored as its first 8 bytes and runs of equal rows: how many bytes of it there
+// were.
 fn read_runs(from: &mut impl Read, book: &mut [u8]) -> io::Result<usize>
     ensures { IfOk result (λ n. n ≤ len book.old) }
 {
@@ -73,7 +75,8 @@ fn read_runs(from: &mut impl Read, book: &mut [u8]) -> io::Result<usize>
     Ok(done)
 }
 
-// A run of equal rows to the book from index `at` on: the index after it, or `at` where there is none that fits.
+// A run of equal rows to the book from index `at` on: the index after it, or `at` where there is
+// none that fits.
 fn read_run(from: &mut impl Read, book: &mut [u8], at: usize) -> io::Result<usize>
     requires { at ≤ len book.old }
     ensures { IfOk result (λ n. n ≤ len book.old) }

@@ -1,5 +1,6 @@
-// Reads calls with their books from standard input, makes each call and writes a line with every figure that it gives.
-// The stream and the lines are those of docs/VECTORS.md. A stream that breaks off is read as if zeros followed, and 0 is its end.
+// Reads calls with their books from standard input, makes each call and writes a line with every
+// figure that it gives. The stream and the lines are those of docs/VECTORS.md. A stream that breaks
+// off is read as if zeros followed, and 0 is its end.
 #![tactic(auto)]
 
 mod input;
@@ -108,7 +109,8 @@ fn answer_join(from: &mut impl Read, to: &mut impl Write, in_runs: bool) -> io::
     write_into(to, 5, &a[..m], &b[..n], room)
 }
 
-// Joins two books, nets the first, offsets it, does both, shows its refusal, or prices an option table, into an output of as many bytes as there is room for, each 165 before.
+// Joins two books, nets the first, offsets it, does both, shows its refusal, or prices an option
+// table, into an output of as many bytes as there is room for, each 165 before.
 fn write_into(to: &mut impl Write, call: u8, a: &[u8], b: &[u8], room: usize) -> io::Result<bool> {
     let mut out = [165u8; MOST_BOOK];
     if out.len() < room {
@@ -176,7 +178,8 @@ fn answer_next(from: &mut impl Read, to: &mut impl Write) -> io::Result<bool> {
     }
 }
 
-// A proved loop has to end, and nothing says that the input does: there are as many turns as no stream uses up.
+// A proved loop has to end, and nothing says that the input does: there are as many turns as no
+// stream uses up.
 fn main(rt: HostRuntime) -> io::Result<()> {
     let mut from = rt.stdin();
     let mut to = rt.stdout();
