@@ -10,15 +10,18 @@ say() { printf '%s: %s\n' "$name" "$*" >&2; }
 fail() { say "$@"; exit 2; }
 misused() { [ $# -eq 0 ] || say "$@"; echo "$usage" >&2; exit 2; }
 
-# Whether no source is newer than the archive. Folders count: a removed source is a change.
+# Whether no source is newer than the archive. Folders count: a removed source is a change. What rt
+# keeps in out/ is no source.
 newest() {
     local newer
-    newer=$(find "$top/crates" "$top/crates.txt" -newer "$archive" -print -quit) && [ -z "$newer" ]
+    newer=$(find "$top/crates" "$top/crates.txt" -path "$top/crates/*/out" -prune \
+        -o -newer "$archive" -print -quit) && [ -z "$newer" ]
 }
 
 # A checksum of the sources.
 sources() {
-    find "$top/crates" "$top/crates.txt" -type f -exec cksum {} + | sort | cksum
+    find "$top/crates" "$top/crates.txt" -path "$top/crates/*/out" -prune \
+        -o -type f -exec cksum {} + | sort | cksum
 }
 
 # Whether the archive has the calls; an empty one and one that was cut off do not.
@@ -28,10 +31,16 @@ whole() {
     case $(nm "$archive" 2>/dev/null) in *' market_risk_charge'*) ;; *) return 1 ;; esac
 }
 
-# Passes on rt's own lines, one for each crate, and leaves the prover's text to the log.
+# Tells of each crate as it is proved, and what rt says itself, and leaves the prover's text to the log.
 crate_by_crate() {
+    local line crate=
     while IFS= read -r line; do
-        case $line in 'rt: '*) say "${line#rt: }" ;; esac
+        case $line in
+        'rt: chose '*) ;;
+        'rt: '*) say "${line#rt: }" ;;
+        'crate '*) crate=${line#crate } crate=${crate%%:*} ;;
+        logic=proved*) say "$crate proved" ;;
+        esac
     done
 }
 
@@ -43,7 +52,7 @@ prove() {
     mkdir -p "$top/target"
     before=$(sources)
     trap 'rm -f "$archive"' EXIT
-    (cd "$top" && rt staticlib market_risk </dev/null) 2>&1 | tee "$log" | crate_by_crate ||
+    "$top/scripts/library" 2>&1 | tee "$log" | crate_by_crate ||
         fail "the library is not proved and built; $log says why"
     whole || fail "rt left no whole library; $log has what it said"
     [ "$(sources)" = "$before" ] || fail "crates/ changed while it was proved; run again"

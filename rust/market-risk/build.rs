@@ -21,8 +21,8 @@ fn main() {
     println!("cargo::rerun-if-changed={}", archive.display());
     if !archive.is_file() {
         println!(
-            "cargo::error=the proved library {} is missing: run `rt staticlib market_risk` at \
-             the repository's top, or set MARKET_RISK_LIB_DIR to the folder that has it",
+            "cargo::error=the proved library {} is missing: run `scripts/library` at the \
+             repository's top, or set MARKET_RISK_LIB_DIR to the folder that has it",
             archive.display()
         );
         return;

@@ -20,7 +20,7 @@ fn writes(input: &[u8]) -> Vec<String> {
         .stdin(Stdio::piped())
         .stdout(OwnedFd::from(there))
         .spawn()
-        .expect("`rt check capital` makes the program");
+        .expect("`scripts/program` makes the program");
     // It reads no more than 64,009 bytes, so that a longer input may not go through.
     let _ = program.stdin.take().unwrap().write_all(input);
     let (mut found, mut bytes) = (Vec::new(), [0; 1024]);
