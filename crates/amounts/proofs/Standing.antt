@@ -9,7 +9,7 @@ use native.Mathlib.Nat.{zero-add, add-zero, add-suc, suc-add}
 use native.Mathlib.Omega.{arith}
 use lib.Dec.{eqb}
 use lib.ListN.{length, get_or}
-use Rattle.sums.specs.Every.{Every, none, also}
+use Rattle.sums.specs.Every.{Every, also}
 use Rattle.sums.specs.Sums.{sum_of, span}
 use Rattle.sums.proofs.Spans.{sum_shift}
 use Rattle.book.specs.declared.Row.{Row}

@@ -1,5 +1,6 @@
 // The rows of a book with other amounts, which stand in two tables at the rows' numbers, written into an output that the caller lends.
 #![tactic(auto)]
+
 pub mod counting;
 pub mod own;
 mod writing;

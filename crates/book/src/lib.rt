@@ -1,5 +1,6 @@
 // The book file: its contents, its rows, why a book is refused, and the part of the file that each class is handed.
 #![tactic(auto)]
+
 pub mod contents;
 pub mod fields;
 pub mod limits;

@@ -1,5 +1,6 @@
 // The charges of a book: its report, and the ladder of one currency or commodity.
 #![tactic(auto)]
+
 mod adding;
 mod bands;
 mod general;

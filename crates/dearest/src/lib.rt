@@ -1,5 +1,6 @@
 // Writes the dearest book of so many rows of at most an amount each into an output that the caller lends.
 #![tactic(auto)]
+
 ghost use Rattle.std.specs.Prelude.{◌≡◌, ◌++◌, ◌+◌, ◌*◌, ◌≤◌, length as len};
 ghost use Rattle.book.specs.Counts.{contents_size, row_size};
 ghost use Rattle.book.specs.Refusals.{most_rows, most_amount};

@@ -1,5 +1,6 @@
 // Joins two books into an output that the caller lends.
 #![tactic(auto)]
+
 mod bodies;
 mod counts;
 

@@ -1,5 +1,6 @@
 // The ladders of one group, and charges on nets: longs against shorts. Knows no file.
 #![tactic(auto)]
+
 pub mod bands;
 pub mod positions;
 pub mod whole;

@@ -1,5 +1,6 @@
 // The bytes of a book written into an output that the caller lends.
 #![tactic(auto)]
+
 pub mod contents;
 pub mod fields;
 

@@ -1,5 +1,6 @@
 // Nets the issues of a book into an output that the caller lends.
 #![tactic(auto)]
+
 mod firsts;
 pub mod gathering;
 mod nets;

@@ -1,5 +1,6 @@
 // Drops the swap legs of a book that fit each other, as it is or when its issues are netted, into an output that the caller lends.
 #![tactic(auto)]
+
 mod fitting;
 mod pairs;
 

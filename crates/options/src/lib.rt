@@ -1,5 +1,6 @@
 // Options by the delta-plus method: reads an option table, writes the book of its deltas, and charges gamma and vega.
 #![tactic(auto)]
+
 mod delta;
 mod greeks;
 mod impacts;

@@ -1,5 +1,6 @@
 // From a refused book writes the shortest file that is refused with the same number, into an output that the caller lends.
 #![tactic(auto)]
+
 mod places;
 
 ghost use Rattle.std.specs.Prelude.{◌≡◌, ◌≤◌, ◌<◌, length as len};

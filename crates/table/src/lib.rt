@@ -1,5 +1,6 @@
 // A ladder table as 36 bytes: fifteen weights of two bytes, low byte first, and six per cents of a byte each.
 #![tactic(auto)]
+
 mod conditions;
 mod fields;
 

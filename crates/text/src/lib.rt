@@ -1,5 +1,6 @@
 // The text of a report, as the program prints it, in a buffer that the caller lends.
 #![tactic(auto)]
+
 mod lines;
 
 ghost use Rattle.std.specs.Prelude.{◌≡◌, ◌≤◌, length};

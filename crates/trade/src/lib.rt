@@ -1,5 +1,6 @@
 // The trade that brings a currency under its limit: the least amount that, added to a side of a band, brings its charge within it.
 #![tactic(auto)]
+
 mod search;
 
 ghost use Rattle.std.specs.Prelude.{◌≡◌};

@@ -2,7 +2,6 @@
 use Prim.Native.Nat.{◌+◌, ◌*◌}
 use Rattle.book.specs.Counts.{contents_size, row_size, count_in, rows_before, body_by}
 use Rattle.book.proofs.Cutting.{cut}
-use borrow.Author.Rules.{rules}
 use Rattle.book.proofs.body.Goals as goal
 
 pub returns : goal.returns

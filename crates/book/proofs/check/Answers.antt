@@ -1,6 +1,5 @@
 -- `book::check` meets its contract: it gives the refusal that the reader gives.
 use mathlib.Core.Path.{ap}
-use borrow.Author.Rules.{rules}
 use Rattle.book.specs.Inner.Reading.{Checked, checked_with, checked_of}
 use Rattle.book.proofs.check.Goals as goal
 

@@ -1,5 +1,4 @@
 -- `book::checked_with` meets its contract: the test on the number is the definition's.
-use borrow.Author.Rules.{rules}
 use borrow.Author.Tests.{eq-eqb, ne_eqb}
 use Rattle.book.specs.Inner.Reading.{checked_with}
 use Rattle.book.proofs.checked_with.Goals as goal

@@ -1,6 +1,5 @@
 -- `book::hand` meets its contract: the test is the definition's, and the counts are the book's own.
 use mathlib.Core.Path.{ap}
-use borrow.Author.Rules.{rules}
 use borrow.Author.Tests.{eq-eqb, ne_eqb}
 use Rattle.book.specs.Inner.Reading.{Checked, checked_with, checked_of}
 use Rattle.book.specs.Parts.{accepts, part_start, part_length, handed_of}

@@ -3,7 +3,6 @@ use mathlib.Core.Path.{◌≡◌}
 use Prim.Native.Nat.{◌+◌, ◌-◌, ◌≤◌}
 use native.Mathlib.Omega.{arith}
 use lib.ListN.{length}
-use borrow.Author.Rules.{rules}
 use Rattle.book.specs.Parts.{handed_of}
 use Rattle.book.proofs.Handing.{part_lies, part_within}
 use Rattle.book.proofs.part.Goals.{After-struct_known-1}

@@ -1,6 +1,5 @@
 -- `book::read` meets its contract: the contents are refused, or they pass and the search gives the refusal of the rows.
 use mathlib.Core.Path.{◌≡◌, sym, ◌∙◌}
-use borrow.Author.Rules.{rules}
 use Rattle.book.specs.Refusals.{contents_refusal}
 use Rattle.book.proofs.Acceptance.{contents_sized}
 use Rattle.book.proofs.Handing.{refused-checked, passed-checked, read_of}

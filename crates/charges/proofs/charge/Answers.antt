@@ -1,6 +1,5 @@
 -- `charges::charge` meets its contract: a table that is refused, or the report by the one that was loaded.
 use mathlib.Core.Path.{ap, ◌∙◌}
-use borrow.Author.Rules.{rules}
 use Rattle.ladder.specs.declared.Table.{Table}
 use Rattle.table.proofs.Accepting.{loaded_number, not_refused, loaded_table, loaded_accepted}
 use Rattle.charges.specs.Report.{refused_report}

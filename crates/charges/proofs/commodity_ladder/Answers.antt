@@ -1,7 +1,6 @@
 -- `charges::commodity_ladder` meets its contract: refused, or the figures of the commodity's rows.
 use mathlib.Core.Path.{sym, ◌∙◌}
 use native.Mathlib.Omega.{arith}
-use borrow.Author.Rules.{rules}
 use Rattle.ladder.specs.Commodity.{commodity_band_count}
 use Rattle.charges.specs.Report.{before, no_commodity, commodity_ladder_of}
 use Rattle.charges.specs.Inner.Answers.{SumsGiven}

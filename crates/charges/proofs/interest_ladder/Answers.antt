@@ -2,7 +2,6 @@
 use mathlib.Core.Path.{sym, ap, subst, ◌∙◌}
 use Prim.Native.Nat.{ℕ}
 use native.Mathlib.Omega.{arith}
-use borrow.Author.Rules.{rules}
 use Rattle.ladder.specs.Inner.Steps.{band_count}
 use Rattle.ladder.specs.declared.Table.{Table}
 use Rattle.table.specs.Loaded.{table_refusal}

@@ -1,6 +1,5 @@
 -- `charges::ladder_checked` meets its contract: a wrong group, and then a wrong table, is refused before the book is read.
 use mathlib.Core.Path.{ap₂, ◌∙◌}
-use borrow.Author.Rules.{rules}
 use Rattle.book.specs.Inner.Reading.{checked_with}
 use Rattle.charges.proofs.Reading.{refused-group, refused-first, given_ladder}
 use Rattle.charges.proofs.ladder_checked.Goals as goal

@@ -1,6 +1,5 @@
 -- `charges::ladder_sums` meets its contract: refused, or the sums of the group's rows in the class's part of the book.
 use mathlib.Core.Path.{◌≡◌, refl, ◌∙◌}
-use borrow.Author.Rules.{rules}
 use Rattle.book.specs.Parts.{part_of}
 use Rattle.charges.proofs.Reading.{read_part, sums_given, sums_refused}
 use Rattle.charges.proofs.ladder_sums.Goals.{After-body-part}

@@ -2,7 +2,6 @@
 use mathlib.Core.Path.{◌∙◌}
 use mathlib.Core.List.{List}
 use Prim.Native.Nat.{ℕ}
-use borrow.Author.Rules.{rules}
 use Rattle.book.specs.Accepted.{Accepted}
 use Rattle.charges.proofs.Taking.{sums_all}
 use Rattle.charges.proofs.Costs.{Costs, costs}

@@ -1,6 +1,5 @@
 -- `charges::small_with` meets its contract: the total is the sum of the two.
 use mathlib.Core.Path.{refl}
-use borrow.Author.Rules.{rules}
 use Rattle.charges.specs.SmallBank.{small_with}
 use Rattle.charges.proofs.small_with.Goals as goal
 

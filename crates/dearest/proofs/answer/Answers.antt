@@ -1,6 +1,5 @@
 -- `dearest::answer` meets its contract: the refusal is the one that was made.
 use mathlib.Core.Path.{ap}
-use borrow.Author.Rules.{rules}
 use Rattle.book.specs.declared.Refusal.{Refusal}
 use Rattle.dearest.specs.Inner.Parts.{answer_of}
 use Rattle.dearest.proofs.answer.Goals as goal

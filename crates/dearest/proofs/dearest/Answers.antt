@@ -1,7 +1,6 @@
 -- `dearest::dearest` meets its contract: 22, then 12, or the book, whose total is what its rows cost.
 use mathlib.Core.Path.{◌≡◌, sym, ◌∙◌}
 use native.Mathlib.Omega.{arith}
-use borrow.Author.Rules.{rules}
 use Rattle.dearest.specs.Dearest.{limits_refusal}
 use Rattle.dearest.proofs.Whole.{Limits, limits}
 use Rattle.dearest.proofs.Costs.{dearest_fits}

@@ -1,5 +1,4 @@
 -- `dearest::write_book` meets its contract: the contents and then the rows.
-use borrow.Author.Rules.{rules}
 use Rattle.dearest.proofs.Outcome.{book_written}
 use Rattle.dearest.proofs.write_book.Goals as goal
 

@@ -1,7 +1,6 @@
 -- `dearest::write_rows` meets its contract: after each turn one row more is written.
 use Prim.Native.Nat.{◌-◌}
-use native.Mathlib.Omega.{arith}
-use Rattle.dearest.proofs.Times.{Rows, no_rows, same_room, one_more, all_rows}
+use Rattle.dearest.proofs.Times.{Rows}
 use Rattle.dearest.proofs.write_rows.Given as goal
 
 abbrev pub invariant-loop-at : goal.invariant-loop-at

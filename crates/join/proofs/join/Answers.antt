@@ -10,7 +10,6 @@ use Rattle.book.specs.Counts.{contents_size, classes}
 use Rattle.join.specs.Joined.{joined_body, join_refusal}
 use Rattle.join.proofs.Settling.{Read, Joins, joins, own_counts, settled-read}
 use Rattle.join.proofs.Outcome.{bodies_size, refused-outcome, joined-outcome}
-use borrow.Author.Rules.{rules}
 use Rattle.join.proofs.join.Goals.{After-add-counts, After-settle-refusal, Else-refusal-ne0}
 use Rattle.join.proofs.join.Goals as goal
 

@@ -2,7 +2,6 @@
 -- Assumes nothing.
 use borrow.Author.Tests.{lt-ltb, le-ltb, eq-eqb, ne_eqb}
 use Rattle.join.specs.Joined.{settled}
-use borrow.Author.Rules.{rules}
 use Rattle.join.proofs.settle.Goals as goal
 
 pub returns-then-first-ne0 : goal.returns-then-first-ne0

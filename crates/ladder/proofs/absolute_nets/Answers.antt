@@ -1,5 +1,4 @@
 -- `ladder::absolute_nets` meets its contract: the nets of all groups are those of one zone.
-use borrow.Author.Rules.{rules}
 use Rattle.ladder.proofs.Gathering.{absolutes_in_steps}
 use Rattle.ladder.proofs.absolute_nets.Goals as goal
 

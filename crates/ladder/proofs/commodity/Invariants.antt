@@ -1,9 +1,7 @@
 -- `ladder::commodity` meets its contract: before each band it has what the nearer bands give.
 use Prim.Native.Nat.{◌≤◌, ◌-◌}
-use native.Mathlib.Omega.{arith}
-use borrow.Author.Rules.{rules}
 use Rattle.ladder.specs.Inner.Steps.{bands}
-use Rattle.ladder.proofs.Gathering.{Carries, carries_none, carries_room, carries_next, carries_all}
+use Rattle.ladder.proofs.Gathering.{Carries}
 use Rattle.ladder.proofs.commodity.Given as goal
 
 abbrev pub invariant-loop-band : goal.invariant-loop-band

@@ -1,5 +1,4 @@
 -- `ladder::interest` meets its contract: the three zones, gathered, make the ladder.
-use borrow.Author.Rules.{rules}
 use Rattle.ladder.proofs.Gathering.{gathered_summed, gathered_interest}
 use Rattle.ladder.proofs.interest.Goals as goal
 

@@ -1,6 +1,5 @@
 -- `ladder::shorthand` meets its contract: the nets of the currencies are those of one zone, and gold is a band of its own.
 use native.Mathlib.Omega.{arith}
-use borrow.Author.Rules.{rules}
 use Rattle.ladder.specs.Position.{total}
 use Rattle.ladder.specs.Inner.Steps.{bands}
 use Rattle.ladder.proofs.Gathering.{shorthand-in_steps}

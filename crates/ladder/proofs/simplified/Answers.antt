@@ -1,5 +1,4 @@
 -- `ladder::simplified` meets its contract: nets and gross of all commodities are those of one zone.
-use borrow.Author.Rules.{rules}
 use Rattle.ladder.proofs.simplified.Goals as goal
 
 pub returns : goal.returns

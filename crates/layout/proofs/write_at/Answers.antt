@@ -5,7 +5,6 @@ use mathlib.Core.List.{List, ◌++◌}
 use Prim.Native.Nat.{ℕ, ◌-◌}
 use lib.ListN.{length, take, drop}
 use Rattle.layout.proofs.Writing.{put_back}
-use borrow.Author.Rules.{rules}
 use Rattle.layout.proofs.write_at.Goals as goal
 
 pub returns : goal.returns

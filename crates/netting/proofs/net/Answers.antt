@@ -1,6 +1,5 @@
 -- `netting::net` meets its contract: a refused book is refused here too, and another is netted by its own counts.
 use mathlib.Core.Path.{◌∙◌}
-use borrow.Author.Rules.{rules}
 use Rattle.book.proofs.Acceptance.{read_refusal, read_accepted}
 use Rattle.netting.specs.Netted.{netted_book, comparisons_of, netting_refusal, netted_of, netting_output}
 use Rattle.netting.proofs.Answers.{refused-book, turned-away}

@@ -1,7 +1,6 @@
 -- `netting::net_accepted` meets its contract: 13 and 14 turn away, and else the netted book is written or 12 is given.
 use mathlib.Core.Path.{◌≡◌, ap, ◌∙◌}
 use Prim.Native.Nat.{ℕ}
-use borrow.Author.Rules.{rules}
 use Rattle.book.specs.declared.Refusal.{Refusal}
 use Rattle.amounts.proofs.Outcome.{stands_written, stands_output}
 use Rattle.netting.specs.Netted.{issues_refusal, netted_book, comparisons_of, netting_refusal, netted_of, netting_output}

@@ -3,7 +3,6 @@ use mathlib.Core.Path.{◌≡◌, sym, ap, subst, ◌∙◌}
 use mathlib.Core.List.{List}
 use Prim.Native.Nat.{ℕ}
 use native.Mathlib.Omega.{arith}
-use borrow.Author.Rules.{rules}
 use Rattle.book.specs.declared.Refusal.{Refusal}
 use Rattle.book.specs.Counts.{counts_of, count_of_rows}
 use Rattle.book.specs.Accepted.{Accepted}

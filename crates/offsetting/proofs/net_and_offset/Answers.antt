@@ -1,6 +1,5 @@
 -- `offsetting::net_and_offset` meets its contract: a refused book is refused here too, and another is netted and offset by its own counts.
 use mathlib.Core.Path.{◌∙◌}
-use borrow.Author.Rules.{rules}
 use Rattle.book.proofs.Acceptance.{read_refusal, read_accepted}
 use Rattle.netting.specs.Netted.{comparisons_of}
 use Rattle.netting.proofs.Answers.{refused-book, turned-away}

@@ -1,7 +1,6 @@
 -- `offsetting::net_and_offset_accepted` meets its contract: 13 and 14 turn away, and else the netted rows without the pairs that fit are written or 12 is given.
 use mathlib.Core.Path.{◌≡◌, ap, ◌∙◌}
 use Prim.Native.Nat.{ℕ}
-use borrow.Author.Rules.{rules}
 use Rattle.book.specs.declared.Refusal.{Refusal}
 use Rattle.amounts.specs.Inner.Standing.{Stands}
 use Rattle.amounts.proofs.Outcome.{stands_written, stands_output}

@@ -1,5 +1,4 @@
 -- `offsetting::offset` meets its contract: a refused book is refused here too, and another is offset by its own counts.
-use borrow.Author.Rules.{rules}
 use Rattle.book.proofs.Acceptance.{read_refusal, read_accepted}
 use Rattle.offsetting.proofs.Outcome.{turned-away}
 use Rattle.offsetting.proofs.offset.Goals as goal

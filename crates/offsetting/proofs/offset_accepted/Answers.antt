@@ -1,5 +1,4 @@
 -- `offsetting::offset_accepted` meets its contract: the rows' own amounts without the pairs that fit are written.
-use borrow.Author.Rules.{rules}
 use Rattle.amounts.proofs.Outcome.{stands_written, stands_output}
 use Rattle.offsetting.specs.Offset.{offset_book}
 use Rattle.offsetting.proofs.Outcome.{offset_stands, carried_out}

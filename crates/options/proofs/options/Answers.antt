@@ -14,7 +14,6 @@ use Rattle.options.specs.Inner.Answers.{refused_pricing}
 use Rattle.options.proofs.Ranges.{accepted_options, accepted_sized}
 use Rattle.options.proofs.Walking.{whole}
 use Rattle.options.proofs.Outcome.{outside, too_short, wrote}
-use borrow.Author.Rules.{rules}
 use Rattle.options.proofs.options.Goals.{After-rows, Else-told-ne0}
 use Rattle.options.proofs.options.Goals as goal
 

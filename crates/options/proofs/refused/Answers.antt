@@ -3,7 +3,6 @@ use mathlib.Core.Path.{ap}
 use lib.ListN.{replicate}
 use Rattle.charges.specs.declared.Report.{Report}
 use Rattle.options.specs.Inner.Answers.{refused_pricing}
-use borrow.Author.Rules.{rules}
 use Rattle.options.proofs.refused.Goals as goal
 
 pub returns : goal.returns

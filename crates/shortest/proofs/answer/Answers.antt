@@ -1,6 +1,5 @@
 -- `shortest::answer` meets its contract: the refusal is the one that was made.
 use mathlib.Core.Path.{ap}
-use borrow.Author.Rules.{rules}
 use Rattle.book.specs.declared.Refusal.{Refusal}
 use Rattle.shortest.specs.Inner.Places.{answer_of}
 use Rattle.shortest.proofs.answer.Goals as goal

@@ -2,7 +2,6 @@
 use mathlib.Core.Path.{refl, sym, ap}
 use mathlib.Core.List.{[]}
 use native.Mathlib.Omega.{arith}
-use borrow.Author.Rules.{rules}
 use lib.Dec.{eqb}
 use Prim.Native.Nat.{ℕ, ◌<◌}
 use Rattle.book.specs.declared.Refusal.{Refusal}

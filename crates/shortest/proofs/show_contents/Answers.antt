@@ -1,7 +1,6 @@
 -- `shortest::show_contents` meets its contract: the contents are the whole file.
 use mathlib.Core.Path.{ap, ◌∙◌}
 use native.Mathlib.Omega.{arith}
-use borrow.Author.Rules.{rules}
 use Rattle.book.specs.declared.Counts.{Counts}
 use Rattle.book.specs.Counts.{contents_size}
 use Rattle.layout.specs.Files.{contents_bytes}

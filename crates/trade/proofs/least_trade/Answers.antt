@@ -1,5 +1,4 @@
 -- `trade::least_trade` meets its contract: refused, or the least amount of the currency's ladder.
-use borrow.Author.Rules.{rules}
 use Rattle.trade.proofs.Outcome.{refused-trade, can_open, given_trade}
 use Rattle.trade.proofs.least_trade.Goals as goal
 

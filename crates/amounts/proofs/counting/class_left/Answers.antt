@@ -1,7 +1,6 @@
 -- `amounts::counting::class_left` meets its contract: the rows of a class are rows of the book.
 use mathlib.Core.Path.{ap₂, ◌∙◌}
 use native.Mathlib.Omega.{arith}
-use borrow.Author.Rules.{rules}
 use Rattle.book.proofs.Placing.{before-within}
 use Rattle.amounts.specs.Inner.Standing.{positions_in}
 use Rattle.amounts.specs.Inner.Counting.{left_rows}

@@ -1,5 +1,4 @@
 -- `amounts::counting::left_counts` meets its contract: one count for each class.
-use borrow.Author.Rules.{rules}
 use Rattle.amounts.specs.Inner.Counting.{left_counts}
 use Rattle.amounts.proofs.counting.left_counts.Goals as goal
 

@@ -1,12 +1,9 @@
 -- `amounts::counting::left_rows` meets its contract: the rows before are counted.
 use mathlib.Core.Path.{ap, ◌∙◌}
 use mathlib.Core.Bool.{cond}
-use Prim.Native.Nat.{◌+◌, ◌-◌, ◌≤◌}
 use native.Mathlib.Omega.{arith}
-use borrow.Author.Rules.{rules}
 use Rattle.ladder.specs.declared.positions.Position.{Position}
-use Rattle.sums.proofs.Spans.{Summed, summed_none, summed_next, summed_all}
-use Rattle.amounts.specs.Inner.Standing.{positions_in}
+use Rattle.sums.proofs.Spans.{summed_none, summed_next, summed_all}
 use Rattle.amounts.specs.Inner.Counting.{is_left}
 use Rattle.amounts.proofs.counting.left_rows.Goals as goal
 

@@ -1,11 +1,7 @@
 -- `amounts::counting::left_rows` meets its contract: the rows before are counted.
-use mathlib.Core.Path.{ap, ◌∙◌}
 use mathlib.Core.Bool.{cond}
 use Prim.Native.Nat.{◌+◌, ◌-◌, ◌≤◌}
-use native.Mathlib.Omega.{arith}
-use borrow.Author.Rules.{rules}
-use Rattle.ladder.specs.declared.positions.Position.{Position}
-use Rattle.sums.proofs.Spans.{Summed, summed_none, summed_next, summed_all}
+use Rattle.sums.proofs.Spans.{Summed}
 use Rattle.amounts.specs.Inner.Standing.{positions_in}
 use Rattle.amounts.specs.Inner.Counting.{is_left}
 use Rattle.amounts.proofs.counting.left_rows.Given as goal

@@ -3,7 +3,6 @@ use mathlib.Core.Path.{◌≡◌, sym, ap, ◌∙◌}
 use mathlib.Core.Bool.{Bool, true, false, cond}
 use Prim.Native.Nat.{ℕ}
 use native.Mathlib.Omega.{arith}
-use borrow.Author.Rules.{rules}
 use Rattle.amounts.proofs.counting.one_left.Goals as goal
 
 counted : {test left : Bool} → test ≡ left → (given : Bool) → test ≡ given → cond given 1 0 ≡ cond {A = ℕ} left 1 0

@@ -1,14 +1,13 @@
 -- `amounts::own::class_amounts` meets its contract: the rows before stand in the tables.
 use mathlib.Core.Path.{refl, ◌∙◌}
-use Prim.Native.Nat.{◌+◌, ◌-◌, ◌<◌}
+use Prim.Native.Nat.{◌+◌, ◌<◌}
 use native.Mathlib.Omega.{arith}
-use borrow.Author.Rules.{rules}
 use lib.ListN.{length, length-map}
 use Rattle.book.specs.Rows.{rows_in, decode}
 use Rattle.book.specs.Refusals.{most_rows}
 use Rattle.book.specs.Inner.Reading.{part_rows}
 use Rattle.book.proofs.ClassRows.{row_is}
-use Rattle.amounts.proofs.Filling.{Filled, filled_none, filled_next, filled_all}
+use Rattle.amounts.proofs.Filling.{filled_none, filled_next, filled_all}
 use Rattle.amounts.proofs.own.class_amounts.Goals.{After-row_at-leg}
 use Rattle.amounts.proofs.own.class_amounts.Goals as goal
 

@@ -1,9 +1,8 @@
 -- `amounts::own::own_amounts` meets its contract: the classes before stand in the tables.
 use mathlib.Core.Path.{◌≡◌}
 use mathlib.Core.List.{List}
-use Prim.Native.Nat.{ℕ, ◌+◌, ◌-◌, ◌≤◌}
+use Prim.Native.Nat.{ℕ, ◌+◌, ◌≤◌}
 use native.Mathlib.Omega.{arith}
-use borrow.Author.Rules.{rules}
 use lib.ListN.{length}
 use Rattle.book.specs.declared.Counts.{Counts}
 use Rattle.book.specs.Counts.{counts_of, rows_before, body_by}

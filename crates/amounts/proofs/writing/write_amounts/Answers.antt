@@ -1,7 +1,6 @@
 -- `amounts::writing::write_amounts` meets its contract: nothing for amounts of zero, else the sixteen bytes of the row with them.
 use mathlib.Core.Path.{sym, ap, ◌∙◌}
 use native.Mathlib.Omega.{arith}
-use borrow.Author.Rules.{rules}
 use lib.ListN.{length}
 use Rattle.book.specs.declared.Row.{Row}
 use Rattle.layout.specs.Written.{written}

@@ -1,19 +1,8 @@
 -- `amounts::writing::write_bodies` meets its contract: the loop writes the bodies one after the other.
-use mathlib.Core.Path.{◌≡◌, ap, ◌∙◌}
-use mathlib.Core.List.{List}
-use Prim.Native.Nat.{ℕ, ◌+◌, ◌-◌, ◌≤◌}
-use native.Mathlib.Omega.{arith}
-use borrow.Author.Rules.{rules}
-use lib.ListN.{length}
-use Rattle.book.specs.declared.Counts.{Counts}
-use Rattle.book.specs.Counts.{count_in, rows_before, body_by}
-use Rattle.book.specs.Inner.Reading.{part_rows}
-use Rattle.book.proofs.Placing.{before-within}
-use Rattle.ladder.specs.Position.{Bands}
-use Rattle.layout.specs.Written.{written}
-use Rattle.layout.proofs.Classwise.{Writes, begins, piece_room, writes-next, all_written}
+use Prim.Native.Nat.{◌-◌}
+use Rattle.layout.proofs.Classwise.{Writes}
 use Rattle.amounts.specs.Inner.Standing.{positions_in}
-use Rattle.amounts.specs.Inner.Writing.{standing_bytes, CanWriteRows, standing_body, CanWrite}
+use Rattle.amounts.specs.Inner.Writing.{standing_body}
 use Rattle.amounts.proofs.writing.write_bodies.Given as goal
 
 abbrev pub invariant-loop-class : goal.invariant-loop-class

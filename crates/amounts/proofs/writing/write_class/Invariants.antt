@@ -1,19 +1,9 @@
 -- `amounts::writing::write_class` meets its contract: writing the rows that are left makes the whole.
-use mathlib.Core.Path.{◌≡◌, ap, ap₂, ◌∙◌}
-use mathlib.Core.List.{List}
-use Prim.Native.Nat.{ℕ, ◌+◌, ◌-◌, ◌≤◌, ◌<◌}
-use native.Mathlib.Omega.{arith}
-use borrow.Author.Rules.{rules}
-use lib.ListN.{length, get_or, length-map}
-use Rattle.book.specs.Rows.{rows_in, decode}
-use Rattle.book.specs.Refusals.{most_amount}
+use Prim.Native.Nat.{◌-◌}
+use lib.ListN.{length}
 use Rattle.book.specs.Inner.Reading.{part_rows}
-use Rattle.ladder.specs.Position.{gross}
-use Rattle.layout.specs.Written.{written}
 use Rattle.amounts.specs.Inner.Standing.{positions_in}
-use Rattle.amounts.specs.Inner.Writing.{placed_bytes}
-use Rattle.book.proofs.ClassRows.{no_row, row_is}
-use Rattle.amounts.proofs.Bytes.{Wrote, wrote_none, row_room, wrote_next, wrote_all}
+use Rattle.amounts.proofs.Bytes.{Wrote}
 use Rattle.amounts.proofs.writing.write_class.Given as goal
 
 abbrev pub invariant-loop-row : goal.invariant-loop-row

@@ -2,7 +2,6 @@
 use native.Mathlib.Omega.{arith}
 use Rattle.book.specs.Counts.{rows_before, count_in, count_of_rows}
 use Rattle.book.proofs.Placing.{before-none, before-all}
-use borrow.Author.Rules.{rules}
 use Rattle.book.proofs.Counts.rows_before.Goals as goal
 
 pub returns-in-2 : goal.returns-in-2

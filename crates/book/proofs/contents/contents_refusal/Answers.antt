@@ -4,7 +4,6 @@ use Rattle.book.specs.Counts.{counts_of, count_of_rows}
 use mathlib.Core.Path.{◌≡◌}
 use borrow.Author.Tests.{lt-ltb, le-ltb, eq-eqb, ne_eqb}
 use Rattle.book.specs.Refusals.{contents_refusal}
-use borrow.Author.Rules.{rules}
 use Rattle.book.proofs.contents.contents_refusal.Goals.{After-rows-rows}
 use Rattle.book.proofs.contents.contents_refusal.Goals as goal
 

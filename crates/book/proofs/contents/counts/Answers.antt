@@ -1,6 +1,5 @@
 -- `book::contents::counts` meets its contract: four fields at the head of the file.
 use Rattle.book.specs.Counts.{counts_of}
-use borrow.Author.Rules.{rules}
 use Rattle.book.proofs.contents.counts.Goals as goal
 
 pub returns : goal.returns

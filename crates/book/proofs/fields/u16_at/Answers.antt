@@ -4,7 +4,6 @@ use lib.ListN.{get_or}
 use mathlib.Core.Path.{refl}
 use native.Mathlib.Omega.{arith}
 use Rattle.book.specs.Fields.{u16_at}
-use borrow.Author.Rules.{rules}
 use Rattle.book.proofs.fields.u16_at.Goals.{After-shared_slice_known-2-1}
 use Rattle.book.proofs.fields.u16_at.Goals as goal
 

@@ -1,6 +1,5 @@
 -- `book::fields::u32_at` meets its contract: two fields of sixteen bits.
 use Rattle.book.specs.Fields.{u32_at}
-use borrow.Author.Rules.{rules}
 use Rattle.book.proofs.fields.u32_at.Goals as goal
 
 pub returns : goal.returns

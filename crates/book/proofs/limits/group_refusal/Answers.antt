@@ -1,5 +1,4 @@
 -- `book::limits::group_refusal` meets its contract: each test is the definition's, in its order.
-use borrow.Author.Rules.{rules}
 use borrow.Author.Tests.{lt-ltb, le-ltb}
 use Rattle.book.specs.Refusals.{group_refusal}
 use Rattle.book.proofs.limits.group_refusal.Goals as goal

@@ -1,6 +1,6 @@
 -- `book::limits::most_days` meets its contract: the match on the class is the definition's.
 use mathlib.Core.Bool.{or-true}
-use mathlib.Core.Logic.{inl, inr, ⊎_elim}
+use mathlib.Core.Logic.{⊎_elim}
 use borrow.Author.Tests.{eq-eqb, ne_eqb}
 use native.Mathlib.Omega.{arith}
 use Rattle.book.specs.Refusals.{most_days}

@@ -1,5 +1,4 @@
 -- `book::limits::row_refusal` meets its contract: the first of three leaves that refuses.
-use borrow.Author.Rules.{rules}
 use borrow.Author.Tests.{eq-eqb, ne_eqb}
 use Rattle.book.specs.Refusals.{or_else, row_refusal}
 use Rattle.book.proofs.limits.row_refusal.Goals as goal

@@ -1,7 +1,6 @@
 -- `book::limits::terms_refusal` meets its contract: the limits are chosen first, and each test gives what the definition does.
 use mathlib.Core.Path.{◌≡◌, sym, ap, ◌∙◌}
 use mathlib.Core.Bool.{cond}
-use borrow.Author.Rules.{rules}
 use Rattle.book.specs.Refusals.{most_days, most_coupon, most_fixing, most_final}
 use Rattle.book.proofs.Terms.{days_over, coupon_over, ends_early, none_refused, terms_answer}
 use Rattle.book.proofs.limits.terms_refusal.Goals.{After-either, After-either-2}

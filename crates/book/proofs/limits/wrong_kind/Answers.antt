@@ -1,5 +1,4 @@
 -- `book::limits::wrong_kind` meets its contract: both tests are the definition's.
-use borrow.Author.Rules.{rules}
 use borrow.Author.Tests.{lt-ltb, le-ltb}
 use Rattle.book.proofs.limits.wrong_kind.Goals as goal
 

@@ -8,7 +8,6 @@ use Rattle.book.specs.Fields.{u16_at, u32_at}
 use Rattle.book.specs.Rows.{rows_in, decode}
 use Rattle.book.specs.Inner.Reading.{row_of}
 use Rattle.book.proofs.Chunks.{chunk_at, row_count}
-use borrow.Author.Rules.{rules}
 use Rattle.book.proofs.rows.row_at.Goals as goal
 
 pub returns-then-i-part : goal.returns-then-i-part

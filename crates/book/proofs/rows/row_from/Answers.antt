@@ -1,6 +1,5 @@
 -- `book::rows::row_from` meets its contract: each field is read from its place in the file.
 use Rattle.book.proofs.Chunks.{row_fields}
-use borrow.Author.Rules.{rules}
 use Rattle.book.proofs.rows.row_from.Goals as goal
 
 pub returns : goal.returns

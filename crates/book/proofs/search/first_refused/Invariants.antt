@@ -1,14 +1,7 @@
 -- `book::search::first_refused` meets its contract: the rows passed are clean, so that the search of all legs is the search of what is left.
-use mathlib.Core.Path.{◌≡◌, sym, ap, ◌∙◌}
-use Prim.Native.Nat.{ℕ, ◌-◌}
-use native.Mathlib.Omega.{arith}
-use borrow.Author.Rules.{rules}
-use Rattle.book.specs.Counts.{Counts, count_in}
-use Rattle.book.specs.Rows.{decode}
+use Prim.Native.Nat.{◌-◌}
 use Rattle.book.specs.Legs.{legs_of}
-use Rattle.book.specs.Refusals.{row_refusal, refused}
-use Rattle.book.proofs.Walking.{bytes_at, legs_length}
-use Rattle.book.proofs.Searching.{AtClass, InClass, Passed, starts, enters, goes_on, next_class, at_end, leg-there, none_passed, passes, leaves, all_passed}
+use Rattle.book.proofs.Searching.{AtClass, InClass, Passed}
 use Rattle.book.proofs.search.first_refused.Given as goal
 
 abbrev pub invariant-loop-row : goal.invariant-loop-row

@@ -1,7 +1,6 @@
 -- `charges::adding::add_amounts` meets its contract: each side's slot has room for one row more.
 use mathlib.Core.Path.{refl}
 use native.Mathlib.Omega.{arith}
-use borrow.Author.Rules.{rules}
 use Rattle.charges.proofs.adding.add_amounts.Goals as goal
 
 pub overflow_add-longs : goal.overflow_add-longs

@@ -2,7 +2,6 @@
 use mathlib.Core.Path.{refl}
 use Prim.Native.Nat.{◌+◌}
 use native.Mathlib.Omega.{arith}
-use borrow.Author.Rules.{rules}
 use Rattle.charges.specs.Inner.Slots.{leg_counted}
 use Rattle.charges.proofs.Places.{commodity-slot, group_slot_lem}
 use Rattle.charges.proofs.adding.add_commodity.Goals as goal

@@ -2,7 +2,6 @@
 use mathlib.Core.Path.{refl}
 use Prim.Native.Nat.{◌+◌}
 use native.Mathlib.Omega.{arith}
-use borrow.Author.Rules.{rules}
 use Rattle.charges.specs.Inner.Slots.{leg_with}
 use Rattle.charges.proofs.Places.{equity-slot, group_slot_lem}
 use Rattle.charges.proofs.Progress.{most_specific}

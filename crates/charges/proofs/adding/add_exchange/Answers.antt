@@ -1,6 +1,5 @@
 -- `charges::adding::add_exchange` meets its contract: the slot is that of the leg.
 use native.Mathlib.Omega.{arith}
-use borrow.Author.Rules.{rules}
 use Rattle.charges.proofs.Places.{exchange_slot}
 use Rattle.charges.proofs.adding.add_exchange.Goals as goal
 

@@ -2,7 +2,6 @@
 use mathlib.Core.Path.{refl}
 use native.Mathlib.Nat.{zero-add}
 use native.Mathlib.Omega.{arith}
-use borrow.Author.Rules.{rules}
 use Rattle.charges.specs.Inner.Slots.{leg_with, leg_counted}
 use Rattle.charges.proofs.Places.{interest_slot, group_slot_lem}
 use Rattle.charges.proofs.Progress.{most_specific}

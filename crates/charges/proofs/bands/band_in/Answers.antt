@@ -1,6 +1,5 @@
 -- `charges::bands::band_in` meets its contract: the match on the class is the definition's.
 use native.Mathlib.Omega.{arith}
-use borrow.Author.Rules.{rules}
 use borrow.Author.Tests.{ne_eqb}
 use Rattle.charges.specs.Bands.{band_in}
 use Rattle.charges.proofs.bands.band_in.Goals as goal

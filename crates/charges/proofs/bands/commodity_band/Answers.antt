@@ -4,7 +4,6 @@ use mathlib.Core.Bool.{true}
 use mathlib.Core.List.{List}
 use Prim.Native.Nat.{ℕ, ◌+◌, ◌*◌, ◌≤◌}
 use native.Mathlib.Omega.{arith}
-use borrow.Author.Rules.{rules}
 use lib.ListN.{length, get_or}
 use Rattle.charges.specs.Bands.{first_band, commodity_column, commodity_band}
 use Rattle.charges.specs.Inner.Columns.{ascending, column_size, largest, columns, column_from}

@@ -5,7 +5,6 @@ use mathlib.Core.List.{List}
 use Prim.Native.Nat.{ℕ, ◌+◌, ◌*◌, ◌≤◌}
 use native.Mathlib.Omega.{arith}
 use mir.Val.{bool_byte}
-use borrow.Author.Rules.{rules}
 use lib.ListN.{length, get_or}
 use Rattle.charges.specs.Bands.{first_band, high_column, low_column, interest_band}
 use Rattle.charges.specs.Inner.Columns.{ascending, column_size, largest, columns, column_from}

@@ -1,7 +1,6 @@
 -- `charges::general::commodity_figures` meets its contract: the arrays are the bands of the commodity.
 use mathlib.Core.Path.{◌∙◌}
 use native.Mathlib.Omega.{arith}
-use borrow.Author.Rules.{rules}
 use Rattle.ladder.specs.Commodity.{commodity_band_count}
 use Rattle.ladder.specs.Inner.Steps.{bands}
 use Rattle.ladder.proofs.Agreeing.{Agree, gross-agree, commodity-agree}

@@ -2,7 +2,6 @@
 use mathlib.Core.Path.{◌∙◌, ap}
 use Prim.Native.Nat.{ℕ, ◌*◌}
 use native.Mathlib.Omega.{arith}
-use borrow.Author.Rules.{rules}
 use lib.ListN.{take, drop}
 use Rattle.ladder.specs.Inner.Steps.{bands}
 use Rattle.ladder.proofs.Agreeing.{Agree, gross-agree, absolutes_agree}
@@ -23,10 +22,13 @@ module _ (start : Start) where
 
 pub absolute_nets-requires : goal.absolute_nets-requires
 absolute_nets-requires c =
-    record { many_in_bounds = (
+    record {
+      many_in_bounds = (
         omega (arith, c.requires.0, part_sized equity_first group_count c.args.longs.now (omega (arith, c.requires.0))),
         omega (arith, c.requires.1, part_sized equity_first group_count c.args.shorts.now (omega (arith, c.requires.1))),
-      ); many_bound = omega (arith, gross-agree (read (goal.at.absolute_nets-requires c).Start), c.requires.2) }
+      );
+      many_bound = omega (arith, gross-agree (read (goal.at.absolute_nets-requires c).Start), c.requires.2);
+    }
 
 pub overflow_mul-result : goal.overflow_mul-result
 overflow_mul-result c =

@@ -2,7 +2,6 @@
 use mathlib.Core.Path.{◌∙◌, ap}
 use Prim.Native.Nat.{ℕ, ◌*◌}
 use native.Mathlib.Omega.{arith}
-use borrow.Author.Rules.{rules}
 use lib.ListN.{take, drop}
 use Rattle.sums.specs.Sums.{span}
 use Rattle.ladder.specs.Inner.Steps.{bands}
@@ -25,10 +24,13 @@ module _ (start : Start) where
 pub shorthand-requires : goal.shorthand-requires
 unfolding span
 shorthand-requires c =
-    record { many_in_bounds = (
+    record {
+      many_in_bounds = (
         omega (arith, c.requires.0, part_sized exchange_first group_count c.args.longs.now (omega (arith, c.requires.0))),
         omega (arith, c.requires.1, part_sized exchange_first group_count c.args.shorts.now (omega (arith, c.requires.1))),
-      ); many_bound = omega (arith, gross-agree (read (goal.at.shorthand-requires c).Start), c.requires.2) }
+      );
+      many_bound = omega (arith, gross-agree (read (goal.at.shorthand-requires c).Start), c.requires.2);
+    }
 
 pub overflow_mul-result : goal.overflow_mul-result
 unfolding span

@@ -1,22 +1,11 @@
 -- `charges::general::interest_generals` meets its contract: the loop keeps the table of the ladders' charges so far; a currency without rows costs nothing.
-use mathlib.Core.Path.{◌≡◌, ap}
 use mathlib.Core.List.{List}
-use Prim.Native.Nat.{ℕ, ◌-◌, ◌*◌, ◌<◌, ◌≤◌}
-use native.Mathlib.Omega.{arith}
-use borrow.Author.Rules.{rules}
-use lib.ListN.{length, get_or}
-use Rattle.sums.specs.Sums.{span}
-use Rattle.sums.proofs.Spans.{Rated, rated_size}
+use Prim.Native.Nat.{ℕ, ◌-◌}
 use Rattle.ladder.specs.declared.Table.{Table}
-use Rattle.ladder.specs.Table.{most_weight}
-use Rattle.ladder.specs.Interest.{zones, matches, interest_figures}
-use Rattle.ladder.specs.Inner.Steps.{band_count, TableBounds}
-use Rattle.ladder.proofs.AddsUp.{charge-within}
-use Rattle.ladder.proofs.Bounds.{weighted_gross}
+use Rattle.ladder.specs.Interest.{interest_figures}
 use Rattle.charges.specs.Inner.Slots.{group_count}
-use Rattle.charges.specs.Inner.Tables.{most_gross, table_with, bands_from, gross_from, weighted_from, currency_at}
-use Rattle.charges.proofs.Fronts.{FrontTable, fronted_none, fronted_next, fronted_room}
-use Rattle.charges.proofs.Listing.{used_table, used_within, used_group}
+use Rattle.charges.specs.Inner.Tables.{table_with, weighted_from, currency_at}
+use Rattle.charges.proofs.Fronts.{FrontTable}
 use Rattle.charges.proofs.general.interest_generals.Given as goal
 
 abbrev pub cost : Table → List ℕ → List ℕ → ℕ → ℕ

@@ -1,15 +1,12 @@
 -- `charges::ladders::tally` meets its contract: the loop keeps that the arrays hold the group's sums of the rows passed.
 use mathlib.Core.Path.{◌≡◌, refl, sym, ◌∙◌}
-use mathlib.Core.Logic.{⊎_elim}
 use mathlib.Core.List.{[]}
-use Prim.Native.Nat.{◌-◌, ◌≤◌, ◌<◌}
+use Prim.Native.Nat.{◌<◌}
 use native.Mathlib.Omega.{arith}
-use borrow.Author.Rules.{rules}
-use lib.ListN.{length, get_or, take, length-map}
+use lib.ListN.{length, get_or, length-map}
 use lib.Seq.{take_all}
 use Rattle.book.specs.Rows.{decode}
 use Rattle.book.specs.Inner.Reading.{part_rows}
-use Rattle.charges.specs.Inner.Ladders.{GroupSums}
 use Rattle.charges.proofs.Legs.{Bounded, bounded}
 use Rattle.charges.proofs.Tallying.{row_at, side_room, group_next, group_kept}
 use Rattle.charges.proofs.ladders.tally.Goals.{After-row_at-row, Start}
@@ -53,14 +50,13 @@ overflow_add-shorts c =
     ))
 
 pub loop-i-preserved : goal.loop-i-preserved
-loop-i-preserved c =
-    (
-      omega arith,
-      elim c.if-row-group.branch [
-        | then-row-group w ↦ rw (w.longs-is, w.shorts-is, w.band_in-band.ensures.0) (group_next c.args.class c.args.group _ _ _ (below (goal.at.loop-i-preserved c).After-row_at-row) (row_here (goal.at.loop-i-preserved c).After-row_at-row) _ _ c.loop-i.invariant.1 w.if-row-group.true)
-        | else-row-group w ↦ rw (w.longs-is, w.shorts-is) (group_kept c.args.class c.args.group _ _ _ (below (goal.at.loop-i-preserved c).After-row_at-row) (row_here (goal.at.loop-i-preserved c).After-row_at-row) _ _ c.loop-i.invariant.1 w.if-row-group.false)
-      ],
-    )
+loop-i-preserved c = (
+  omega arith,
+  elim c.if-row-group.branch [
+    | then-row-group w ↦ rw (w.longs-is, w.shorts-is, w.band_in-band.ensures.0) (group_next c.args.class c.args.group _ _ _ (below (goal.at.loop-i-preserved c).After-row_at-row) (row_here (goal.at.loop-i-preserved c).After-row_at-row) _ _ c.loop-i.invariant.1 w.if-row-group.true)
+    | else-row-group w ↦ rw (w.longs-is, w.shorts-is) (group_kept c.args.class c.args.group _ _ _ (below (goal.at.loop-i-preserved c).After-row_at-row) (row_here (goal.at.loop-i-preserved c).After-row_at-row) _ _ c.loop-i.invariant.1 w.if-row-group.false)
+  ],
+)
 
 pub returns : goal.returns
 returns c =

@@ -1,5 +1,4 @@
 -- `charges::pass::refused_at` meets its contract: it is the definition's record.
-use borrow.Author.Rules.{rules}
 use Rattle.charges.specs.Inner.Pass.{refused_at}
 use Rattle.charges.proofs.pass.refused_at.Goals as goal
 

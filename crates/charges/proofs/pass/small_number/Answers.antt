@@ -1,7 +1,6 @@
 -- `charges::pass::small_number` meets its contract: the contents' number, then 20.
 use Prim.Native.Nat.{◌+◌}
 use mathlib.Core.Path.{◌≡◌, sym, ap, ◌∙◌}
-use borrow.Author.Rules.{rules}
 use borrow.Author.Tests.{eq-eqb, ne_eqb}
 use Rattle.book.specs.declared.Counts.{Counts}
 use Rattle.book.specs.Counts.{counts_of}

@@ -1,6 +1,5 @@
 -- `charges::pass::take_after` meets its contract: refused by the number, or by its rows.
 use mathlib.Core.Path.{◌≡◌}
-use borrow.Author.Rules.{rules}
 use Rattle.book.specs.Refusals.{contents_refusal}
 use Rattle.book.proofs.Acceptance.{contents_sized}
 use Rattle.charges.proofs.Progress.{refused-before, none_before}

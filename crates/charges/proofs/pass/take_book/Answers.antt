@@ -1,6 +1,5 @@
 -- `charges::pass::take_book` meets its contract: its contents come before its rows.
 use mathlib.Core.Path.{sym, ◌∙◌}
-use borrow.Author.Rules.{rules}
 use Rattle.book.specs.Refusals.{refusal_of}
 use Rattle.charges.specs.Inner.Pass.{refusal_after}
 use Rattle.charges.proofs.pass.take_book.Goals as goal

@@ -1,20 +1,17 @@
 -- `charges::pass::take_rows` meets its contract: both loops keep that the legs taken passed and are in the tables.
 use mathlib.Core.Path.{◌≡◌, refl, sym, ap, ◌∙◌}
-use mathlib.Core.Logic.{⊎_elim}
 use mathlib.Core.List.{List, []}
-use Prim.Native.Nat.{ℕ, ◌-◌}
+use Prim.Native.Nat.{ℕ}
 use native.Mathlib.Omega.{arith}
-use borrow.Author.Rules.{rules}
 use lib.ListN.{length, get_or}
 use Rattle.book.specs.declared.Counts.{Counts}
 use Rattle.book.specs.Counts.{count_in}
-use Rattle.book.specs.Refusals.{refused}
 use Rattle.book.specs.Legs.{Leg, leg_of, legs_of}
 use Rattle.book.proofs.Walking.{legs_length}
-use Rattle.book.proofs.Searching.{AtClass, InClass, Stands, starts, enters, goes_on, next_class, at_end, leg-there}
+use Rattle.book.proofs.Searching.{Stands, starts, enters, goes_on, next_class, at_end, leg-there}
 use Rattle.charges.specs.Inner.Slots.{leg_with, Room}
 use Rattle.charges.specs.Inner.Pass.{Took}
-use Rattle.charges.proofs.Progress.{Progress, none_taken, leg-room, leg-taken, leg-refused, all_taken}
+use Rattle.charges.proofs.Progress.{none_taken, leg-room, leg-taken, leg-refused, all_taken}
 use Rattle.charges.proofs.pass.take_rows.Goals.{After-row_from-row, Joined-class}
 use Rattle.charges.proofs.pass.take_rows.Goals.{in-1, in-2, in-3, in_default}
 use Rattle.charges.proofs.pass.take_rows.Goals as goal

@@ -1,6 +1,5 @@
 -- `charges::pass::take_small_book` meets its contract: its contents, and then its counts, come before its rows.
 use mathlib.Core.Path.{sym, ◌∙◌}
-use borrow.Author.Rules.{rules}
 use Rattle.charges.specs.SmallBank.{small_refusal}
 use Rattle.charges.specs.Inner.Pass.{refusal_after}
 use Rattle.charges.proofs.Small.{small_contents}

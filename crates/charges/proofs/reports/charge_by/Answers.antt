@@ -1,15 +1,10 @@
 -- `charges::reports::charge_by` meets its contract: refused, or the six charges of the sums that one pass took, those of interest by currency too.
 use mathlib.Core.Path.{◌≡◌, refl, sym, ap, ◌∙◌}
-use mathlib.Core.List.{List}
-use Prim.Native.Nat.{ℕ}
 use native.Mathlib.Omega.{arith}
-use borrow.Author.Rules.{rules}
 use Rattle.sums.specs.Sums.{sum_of}
 use Rattle.book.specs.Legs.{legs_of}
 use Rattle.book.specs.Accepted.{Accepted}
 use Rattle.book.proofs.Acceptance.{accepted}
-use Rattle.ladder.specs.declared.Table.{Table}
-use Rattle.ladder.specs.Inner.Steps.{TableBounds}
 use Rattle.charges.specs.Charges.{specific_charge}
 use Rattle.charges.specs.Report.{class_rows}
 use Rattle.charges.specs.Inner.Slots.{LegSums}
@@ -32,7 +27,6 @@ module _ (c : Else-refused-ne0) where
 
   cost : Costs c.args.book.now c.take_book-taken.new.longs c.take_book-taken.new.shorts c.take_book-taken.new.specifics c.take_book-taken.new.rows
   cost = costs c.args.book.now _ _ _ _ of sums
-
 
 pub returns-then-refused-ne0 : goal.returns-then-refused-ne0
 returns-then-refused-ne0 c = report_refused _ _ _ c.take_book-taken.ensures.is_taken _ c.refused_report.ensures c.if-refused-ne0.true

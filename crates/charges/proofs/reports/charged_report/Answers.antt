@@ -1,5 +1,4 @@
 -- `charges::reports::charged_report` meets its contract: the total is the sum of the six.
-use borrow.Author.Rules.{rules}
 use Rattle.charges.specs.Report.{report_with}
 use Rattle.charges.proofs.reports.charged_report.Goals as goal
 

@@ -1,10 +1,9 @@
 -- `charges::tables::band_sum` meets its contract: the loop keeps the sum of the bands so far.
 use mathlib.Core.Path.{refl}
-use Prim.Native.Nat.{◌+◌, ◌-◌}
+use Prim.Native.Nat.{◌+◌}
 use native.Mathlib.Omega.{arith}
-use borrow.Author.Rules.{rules}
 use lib.ListN.{get_or}
-use Rattle.sums.proofs.Spans.{Summed, summed_none, summed_next, summed_all, sum_room}
+use Rattle.sums.proofs.Spans.{summed_none, summed_next, summed_all, sum_room}
 use Rattle.ladder.specs.Commodity.{commodity_band_count}
 use Rattle.charges.proofs.tables.band_sum.Goals as goal
 

@@ -1,10 +1,7 @@
 -- `charges::tables::commodity_bands` meets its contract: the array is filled band by band.
-use mathlib.Core.Path.{refl}
 use Prim.Native.Nat.{◌+◌, ◌-◌}
-use native.Mathlib.Omega.{arith}
-use borrow.Author.Rules.{rules}
 use lib.ListN.{get_or}
-use Rattle.sums.proofs.Filling.{Filled, filled_none, filled_next, filled_all}
+use Rattle.sums.proofs.Filling.{Filled}
 use Rattle.charges.proofs.tables.commodity_bands.Given as goal
 
 abbrev pub invariant-loop-k : goal.invariant-loop-k

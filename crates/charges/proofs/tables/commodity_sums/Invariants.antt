@@ -1,9 +1,6 @@
 -- `charges::tables::commodity_sums` meets its contract: the array is filled commodity by commodity.
-use mathlib.Core.Path.{refl}
 use Prim.Native.Nat.{◌-◌}
-use native.Mathlib.Omega.{arith}
-use borrow.Author.Rules.{rules}
-use Rattle.sums.proofs.Filling.{Filled, filled_none, filled_next, filled_all}
+use Rattle.sums.proofs.Filling.{Filled}
 use Rattle.charges.specs.Inner.Slots.{group_count}
 use Rattle.charges.specs.Inner.Tables.{commodity_at, band_sum}
 use Rattle.charges.proofs.tables.commodity_sums.Given as goal

@@ -1,10 +1,7 @@
 -- `charges::tables::group_list` meets its contract: the array is filled group by group.
 use mathlib.Core.Path.{refl}
-use Prim.Native.Nat.{◌+◌, ◌-◌}
 use native.Mathlib.Omega.{arith}
-use borrow.Author.Rules.{rules}
-use lib.ListN.{get_or}
-use Rattle.sums.proofs.Filling.{Filled, filled_none, filled_next, filled_all, listed_array}
+use Rattle.sums.proofs.Filling.{filled_none, filled_next, filled_all, listed_array}
 use Rattle.charges.specs.Inner.Slots.{group_count}
 use Rattle.charges.proofs.tables.group_list.Goals as goal
 

@@ -1,13 +1,7 @@
 -- `charges::tables::group_total` meets its contract: the loop keeps the sum of the groups so far.
-use mathlib.Core.Path.{◌≡◌, refl, ◌∙◌}
 use Prim.Native.Nat.{◌-◌}
-use native.Mathlib.Omega.{arith}
-use borrow.Author.Rules.{rules}
 use lib.ListN.{get_or}
-use Rattle.sums.specs.Sums.{sum_of}
-use Rattle.sums.proofs.Spans.{Summed, summed_none, summed_next, summed_all, sum_room}
-use Rattle.sums.proofs.Filling.{entries_sum}
-use Rattle.charges.specs.Charges.{groups}
+use Rattle.sums.proofs.Spans.{Summed}
 use Rattle.charges.specs.Inner.Slots.{group_count}
 use Rattle.charges.proofs.tables.group_total.Given as goal
 

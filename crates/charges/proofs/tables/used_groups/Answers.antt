@@ -1,13 +1,12 @@
 -- `charges::tables::used_groups` meets its contract: the loop keeps the groups with rows at the front of the list.
 use mathlib.Core.Bool.{not}
-use Prim.Native.Nat.{◌+◌, ◌-◌}
+use Prim.Native.Nat.{◌+◌}
 use native.Mathlib.Omega.{arith}
-use borrow.Author.Rules.{rules}
 use lib.Dec.{eqb}
 use lib.ListN.{get_or}
 use Rattle.charges.specs.Inner.Slots.{group_count}
 use Rattle.charges.proofs.Columns.{counts_once}
-use Rattle.charges.proofs.Listing.{Listed, listed_none, listed_next, listed_all}
+use Rattle.charges.proofs.Listing.{listed_none, listed_next, listed_all}
 use Rattle.charges.proofs.tables.used_groups.Goals as goal
 
 pub loop-group-init : goal.loop-group-init

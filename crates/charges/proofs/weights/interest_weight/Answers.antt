@@ -4,7 +4,6 @@ use mathlib.Core.Bool.{cond, ◌||◌}
 use Prim.Native.Nat.{ℕ}
 use native.Mathlib.Decide.{ℕ_discrete}
 use borrow.Author.Tests.{ne_eqb}
-use borrow.Author.Rules.{rules}
 use lib.Dec.{eqb}
 use Rattle.book.specs.declared.Row.{Row}
 use Rattle.charges.specs.Weights.{qualifying_weight, interest_weight}

@@ -4,7 +4,6 @@ use native.Mathlib.Nat.{mul-le-mul_right}
 use native.Mathlib.Omega.{arith}
 use Rattle.charges.specs.Charges.{specific_of}
 use Rattle.charges.proofs.Legs.{weight_within}
-use borrow.Author.Rules.{rules}
 use Rattle.charges.proofs.weights.specific_charge.Goals.{After-struct_known-2-1}
 use Rattle.charges.proofs.weights.specific_charge.Goals as goal
 

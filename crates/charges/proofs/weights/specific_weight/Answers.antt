@@ -2,7 +2,6 @@
 use native.Mathlib.Omega.{arith}
 use borrow.Author.Tests.{ne_eqb}
 use Rattle.charges.specs.Weights.{specific_weight}
-use borrow.Author.Rules.{rules}
 use Rattle.charges.proofs.weights.specific_weight.Goals as goal
 
 pub returns-in-1 : goal.returns-in-1

@@ -6,7 +6,6 @@ use Prim.Native.Nat.{ℕ, ◌+◌}
 use lib.ListN.{length}
 use Rattle.layout.specs.Written.{written}
 use Rattle.layout.proofs.Writing.{written_after}
-use borrow.Author.Rules.{rules}
 use Rattle.join.proofs.bodies.write_pair.Goals as goal
 
 pub returns : goal.returns

@@ -1,5 +1,4 @@
 -- `ladder::Percents::charge` meets its contract: each share is its per cent of its match, and they are summed.
-use borrow.Author.Rules.{rules}
 use Rattle.ladder.proofs.Stepping.{charge-in_steps}
 use Rattle.ladder.proofs.Percents.charge.Goals as goal
 

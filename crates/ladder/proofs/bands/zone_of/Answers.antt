@@ -1,9 +1,7 @@
 -- `ladder::bands::zone_of` meets its contract: after n bands it has what the first n bands of the zone sum to.
-use Prim.Native.Nat.{◌≤◌, ◌-◌}
 use native.Mathlib.Omega.{arith}
 use borrow.Author.Rules.{rules}
-use Rattle.ladder.specs.Inner.Steps.{bands}
-use Rattle.ladder.proofs.Gathering.{GatheredTo, gathered_none, gathered_room, gathered_next, gathered_all}
+use Rattle.ladder.proofs.Gathering.{gathered_none, gathered_room, gathered_next, gathered_all}
 use Rattle.ladder.proofs.bands.zone_of.Goals as goal
 
 pub loop-n-init : goal.loop-n-init

@@ -1,6 +1,5 @@
 -- `ladder::whole::gather` meets its contract: the bands of the three zones are within those of the ladder.
 use native.Mathlib.Omega.{arith}
-use borrow.Author.Rules.{rules}
 use Rattle.ladder.specs.Inner.Steps.{bands}
 use Rattle.ladder.specs.Interest.{zones}
 use Rattle.ladder.proofs.AddsUp.{three_grosses}

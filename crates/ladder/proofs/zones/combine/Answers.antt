@@ -1,5 +1,4 @@
 -- `ladder::zones::combine` meets its contract: each zone within itself, and then the zones against one another.
-use borrow.Author.Rules.{rules}
 use Rattle.ladder.proofs.Stepping.{combine_in_steps}
 use Rattle.ladder.proofs.zones.combine.Goals as goal
 

@@ -1,16 +1,11 @@
 -- `layout::contents::write_contents` meets its contract: the loop writes the counts one after the other.
 -- Assumes nothing.
-use mathlib.Core.Path.{ap, ◌∙◌}
 use mathlib.Core.List.{List}
 use Prim.Native.Nat.{ℕ, ◌-◌}
-use native.Mathlib.Omega.{arith}
-use borrow.Author.Rules.{rules}
 use Rattle.book.specs.declared.Counts.{Counts}
 use Rattle.book.specs.Counts.{count_in}
-use Rattle.layout.specs.Written.{written}
-use Rattle.layout.specs.Files.{two_bytes_of, contents_bytes}
-use Rattle.layout.proofs.Classwise.{Writes, begins, piece_room, writes-next, all_written}
-use Rattle.layout.proofs.Whole.{contents_length}
+use Rattle.layout.specs.Files.{two_bytes_of}
+use Rattle.layout.proofs.Classwise.{Writes}
 use Rattle.layout.proofs.contents.write_contents.Given as goal
 
 unfoldable pub count_piece : Counts → ℕ → List ℕ

@@ -4,7 +4,6 @@ use mathlib.Core.List.{List, [], ◌∷◌, ◌++◌}
 use Prim.Native.Nat.{ℕ, ◌+◌, ◌≤◌}
 use native.Mathlib.Omega.{arith}
 use lib.ListN.{length}
-use borrow.Author.Rules.{rules}
 use Rattle.book.specs.declared.Row.{Row}
 use Rattle.layout.specs.Written.{written}
 use Rattle.layout.specs.Files.{two_bytes_of, four_bytes_of, row_bytes}

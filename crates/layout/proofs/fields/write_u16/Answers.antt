@@ -1,5 +1,4 @@
 -- `layout::fields::write_u16` meets its contract: its low byte and then its high byte.
-use borrow.Author.Rules.{rules}
 use Rattle.layout.specs.Files.{two_bytes_of}
 use Rattle.layout.proofs.fields.write_u16.Goals as goal
 

@@ -2,7 +2,6 @@
 use mathlib.Core.Path.{refl}
 use Prim.Native.Nat.{◌+◌, ◌/◌, ◌%◌}
 use native.Mathlib.Omega.{arith}
-use borrow.Author.Rules.{rules}
 use Rattle.layout.specs.Files.{two_bytes_of, four_bytes_of}
 use Rattle.layout.proofs.Writing.{written-more}
 use Rattle.layout.proofs.fields.write_u32.Goals as goal

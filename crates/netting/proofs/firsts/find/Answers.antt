@@ -1,14 +1,12 @@
 -- `netting::firsts::find` meets its contract: no issue before the place is the one that is looked for.
 use mathlib.Core.Path.{◌≡◌, sym, ◌∙◌}
-use Prim.Native.Nat.{◌-◌, ◌≤◌, ◌<◌}
+use Prim.Native.Nat.{◌<◌}
 use native.Mathlib.Omega.{arith}
-use borrow.Author.Rules.{rules}
 use borrow.Author.Tests.{eq-eqb, ne_eqb}
-use lib.Dec.{eqb}
 use lib.ListN.{length, take}
 use lib.Seq.{get_or-take, length-take-le}
 use Rattle.netting.proofs.Standing.{compared_found, compared_past}
-use Rattle.netting.proofs.Places.{Searched, searched_none, searched_next, searched_here, searched_all}
+use Rattle.netting.proofs.Places.{searched_none, searched_next, searched_here, searched_all}
 use Rattle.netting.proofs.firsts.find.Goals as goal
 
 pub loop-at-init : goal.loop-at-init

@@ -1,14 +1,9 @@
 -- `netting::firsts::find` meets its contract: no issue before the place is the one that is looked for.
-use mathlib.Core.Path.{◌≡◌, sym, ◌∙◌}
-use Prim.Native.Nat.{◌-◌, ◌≤◌, ◌<◌}
-use native.Mathlib.Omega.{arith}
-use borrow.Author.Rules.{rules}
-use borrow.Author.Tests.{eq-eqb, ne_eqb}
+use mathlib.Core.Path.{◌≡◌}
+use Prim.Native.Nat.{◌-◌, ◌≤◌}
 use lib.Dec.{eqb}
-use lib.ListN.{length, take}
-use lib.Seq.{get_or-take, length-take-le}
-use Rattle.netting.proofs.Standing.{compared_found, compared_past}
-use Rattle.netting.proofs.Places.{Searched, searched_none, searched_next, searched_here, searched_all}
+use lib.ListN.{take}
+use Rattle.netting.proofs.Places.{Searched}
 use Rattle.netting.proofs.firsts.find.Given as goal
 
 abbrev pub invariant-loop-at : goal.invariant-loop-at

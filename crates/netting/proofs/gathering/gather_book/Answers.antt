@@ -1,9 +1,8 @@
 -- `netting::gathering::gather_book` meets its contract: the classes before are gathered, and none of their rows differs.
 use mathlib.Core.Path.{◌≡◌, sym, ap, ◌∙◌}
 use mathlib.Core.List.{List}
-use Prim.Native.Nat.{ℕ, ◌+◌, ◌-◌, ◌≤◌}
+use Prim.Native.Nat.{ℕ, ◌+◌, ◌≤◌}
 use native.Mathlib.Omega.{arith}
-use borrow.Author.Rules.{rules}
 use lib.ListN.{length}
 use Rattle.book.specs.declared.Counts.{Counts}
 use Rattle.book.specs.Counts.{counts_of, count_in, rows_before, body_by}

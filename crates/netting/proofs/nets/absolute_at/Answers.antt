@@ -1,7 +1,6 @@
 -- `netting::nets::absolute_at` meets its contract: of a net one side is zero, so that both together fit.
 use mathlib.Core.Path.{ap}
 use native.Mathlib.Omega.{arith}
-use borrow.Author.Rules.{rules}
 use Rattle.ladder.specs.declared.positions.Position.{Position}
 use Rattle.ladder.specs.Position.{gross}
 use Rattle.ladder.proofs.Matching.{net-sides}

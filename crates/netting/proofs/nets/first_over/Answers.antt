@@ -1,14 +1,10 @@
 -- `netting::nets::first_over` meets its contract: no row before is over the limit.
 use mathlib.Core.Path.{sym, ap, ◌∙◌}
-use Prim.Native.Nat.{◌-◌}
 use native.Mathlib.Omega.{arith}
-use borrow.Author.Rules.{rules}
 use borrow.Author.Tests.{lt-ltb, le-ltb}
 use lib.Dec.{ltb}
 use Rattle.book.specs.Refusals.{most_amount}
-use Rattle.amounts.specs.Inner.Standing.{positions_in}
-use Rattle.netting.specs.Inner.Nets.{is_over}
-use Rattle.netting.proofs.Numbers.{Unfound, unfound_none, unfound_next, found_here, found_none}
+use Rattle.netting.proofs.Numbers.{unfound_none, unfound_next, found_here, found_none}
 use Rattle.netting.proofs.nets.first_over.Goals as goal
 
 pub loop-row-init : goal.loop-row-init

@@ -1,6 +1,5 @@
 -- `netting::nets::net_at` meets its contract: it is what a step of a position leaves.
 use mathlib.Core.Path.{ap}
-use borrow.Author.Rules.{rules}
 use Rattle.ladder.specs.declared.positions.PositionStep.{PositionStep}
 use Rattle.ladder.specs.Inner.Steps.{net_step}
 use Rattle.netting.proofs.nets.net_at.Goals as goal

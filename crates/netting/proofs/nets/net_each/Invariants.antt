@@ -1,8 +1,6 @@
 -- `netting::nets::net_each` meets its contract: the numbers before hold their nets, the others their sums.
 use Prim.Native.Nat.{◌-◌}
-use native.Mathlib.Omega.{arith}
-use borrow.Author.Rules.{rules}
-use Rattle.netting.proofs.Netting.{NettedTo, netted_none, netted_next, netted_all}
+use Rattle.netting.proofs.Netting.{NettedTo}
 use Rattle.netting.proofs.nets.net_each.Given as goal
 
 abbrev pub invariant-loop-row : goal.invariant-loop-row

@@ -2,7 +2,6 @@
 use mathlib.Core.Path.{◌≡◌}
 use mathlib.Core.List.{List}
 use Prim.Native.Nat.{ℕ, ◌≤◌, ◌<◌}
-use borrow.Author.Rules.{rules}
 use borrow.Author.Tests.{lt-ltb, le-ltb}
 use lib.ListN.{set}
 use Rattle.offsetting.specs.Inner.Pairs.{cleared_in}
@@ -18,8 +17,7 @@ pub returns-then-many-other : goal.returns-then-many-other
 returns-then-many-other c = (kept _ _ _ _ c.if-many-other.true, kept _ _ _ _ c.if-many-other.true)
 
 pub returns : goal.returns
-returns c =
-    (
-      cleared c.args.row c.args.other c.args.many c.args.longs.now c.if-many-other.false,
-      cleared c.args.row c.args.other c.args.many c.args.shorts.now c.if-many-other.false,
-    )
+returns c = (
+  cleared c.args.row c.args.other c.args.many c.args.longs.now c.if-many-other.false,
+  cleared c.args.row c.args.other c.args.many c.args.shorts.now c.if-many-other.false,
+)

@@ -1,13 +1,7 @@
 -- `offsetting::pairs::drop_pairs` meets its contract: the pairs of the rows before are dropped.
-use mathlib.Core.Path.{◌≡◌, ap, ◌∙◌}
-use Prim.Native.Nat.{ℕ, ◌-◌}
-use native.Mathlib.Omega.{arith}
-use borrow.Author.Rules.{rules}
-use lib.ListN.{length}
+use Prim.Native.Nat.{◌-◌}
 use Rattle.book.specs.Inner.Reading.{part_rows}
-use Rattle.offsetting.specs.Inner.Pairs.{cleared_in}
-use Rattle.offsetting.proofs.Searching.{many-rows}
-use Rattle.offsetting.proofs.Dropping.{DroppedTo, dropped-none, dropped-next, dropped-all}
+use Rattle.offsetting.proofs.Dropping.{DroppedTo}
 use Rattle.offsetting.proofs.pairs.drop_pairs.Given as goal
 
 abbrev pub invariant-loop-row : goal.invariant-loop-row

@@ -1,8 +1,7 @@
 -- `offsetting::pairs::first_fit` meets its contract: no row before fits.
 use mathlib.Core.Path.{◌≡◌, sym, ap, ◌∙◌}
-use Prim.Native.Nat.{◌-◌, ◌<◌}
+use Prim.Native.Nat.{◌<◌}
 use native.Mathlib.Omega.{arith}
-use borrow.Author.Rules.{rules}
 use lib.ListN.{length}
 use Rattle.book.specs.declared.Row.{Row}
 use Rattle.book.specs.Inner.Reading.{part_rows}
@@ -11,7 +10,7 @@ use Rattle.issues.specs.Issues.{holding}
 use Rattle.swaps.specs.Fitting.{fits}
 use Rattle.amounts.specs.Inner.Standing.{positions_in}
 use Rattle.offsetting.specs.Inner.Pairs.{leg_at}
-use Rattle.offsetting.proofs.Searching.{many-rows, Sought, sought_none, sought_next, sought_here, sought_all}
+use Rattle.offsetting.proofs.Searching.{many-rows, sought_none, sought_next, sought_here, sought_all}
 use Rattle.offsetting.proofs.pairs.first_fit.Goals.{After-fits_at, In-loop-row}
 use Rattle.offsetting.proofs.pairs.first_fit.Goals as goal
 

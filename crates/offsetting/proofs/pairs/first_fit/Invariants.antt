@@ -1,17 +1,9 @@
 -- `offsetting::pairs::first_fit` meets its contract: no row before fits.
-use mathlib.Core.Path.{◌≡◌, sym, ap, ◌∙◌}
-use Prim.Native.Nat.{◌-◌, ◌<◌}
-use native.Mathlib.Omega.{arith}
-use borrow.Author.Rules.{rules}
-use lib.ListN.{length}
-use Rattle.book.specs.declared.Row.{Row}
+use Prim.Native.Nat.{◌-◌}
 use Rattle.book.specs.Inner.Reading.{part_rows}
-use Rattle.book.proofs.ClassRows.{row_is}
 use Rattle.issues.specs.Issues.{holding}
-use Rattle.swaps.specs.Fitting.{fits}
 use Rattle.amounts.specs.Inner.Standing.{positions_in}
-use Rattle.offsetting.specs.Inner.Pairs.{leg_at}
-use Rattle.offsetting.proofs.Searching.{many-rows, Sought, sought_none, sought_next, sought_here, sought_all}
+use Rattle.offsetting.proofs.Searching.{Sought}
 use Rattle.offsetting.proofs.pairs.first_fit.Given as goal
 
 abbrev pub invariant-loop-row : goal.invariant-loop-row

@@ -1,7 +1,6 @@
 -- `offsetting::pairs::fits_at` meets its contract: the amounts first, and then the rest.
 use mathlib.Core.Path.{◌≡◌, ap, ◌∙◌}
 use mathlib.Core.Bool.{false}
-use borrow.Author.Rules.{rules}
 use borrow.Author.Tests.{eq-eqb, ne_eqb}
 use Rattle.book.specs.declared.Row.{Row}
 use Rattle.book.specs.Inner.Reading.{row_of}

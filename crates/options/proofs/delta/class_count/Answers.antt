@@ -1,16 +1,14 @@
 -- `options::delta::class_count` meets its contract: the rows before are counted.
 use mathlib.Core.Path.{sym, ap, ◌∙◌}
 use mathlib.Core.List.{List}
-use Prim.Native.Nat.{◌-◌, ◌≤◌}
 use native.Mathlib.Omega.{arith}
 use lib.ListN.{length}
 use Rattle.sums.specs.Sums.{span}
-use Rattle.sums.proofs.Spans.{Summed, summed_none, summed_next, summed_all}
-use Rattle.options.specs.Table.{OptionRow, option_at}
+use Rattle.sums.proofs.Spans.{summed_none, summed_next, summed_all}
+use Rattle.options.specs.Table.{OptionRow}
 use Rattle.options.specs.Inner.Writing.{delta_rows}
 use Rattle.options.proofs.Walking.{to_all}
 use Rattle.options.proofs.Bytes.{one_row, rows_many}
-use borrow.Author.Rules.{rules}
 use Rattle.options.proofs.delta.class_count.Goals as goal
 
 pub loop-row-init : goal.loop-row-init

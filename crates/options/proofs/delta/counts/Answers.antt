@@ -4,7 +4,6 @@ use lib.ListN.{length}
 use Rattle.layout.specs.Files.{counts_by}
 use Rattle.options.specs.Inner.Writing.{delta_counts}
 use Rattle.options.proofs.Outcome.{rows_of_interest}
-use borrow.Author.Rules.{rules}
 use Rattle.options.proofs.delta.counts.Goals as goal
 
 pub returns : goal.returns

@@ -4,7 +4,6 @@ use native.Mathlib.Nat.{mul-le-mul}
 use native.Mathlib.Omega.{arith}
 use Rattle.options.specs.Delta.{delta_amount}
 use Rattle.options.proofs.Rounding.{delta_within}
-use borrow.Author.Rules.{rules}
 use Rattle.options.proofs.delta.delta_amount.Goals as goal
 
 pub overflow_mul-result : goal.overflow_mul-result

@@ -6,7 +6,6 @@ use Rattle.book.specs.declared.Row.{Row}
 use Rattle.options.specs.Table.{OptionRow}
 use Rattle.options.specs.Delta.{is_long, delta_amount, delta_leg}
 use Rattle.options.specs.Inner.Writing.{row_with}
-use borrow.Author.Rules.{rules}
 use Rattle.options.proofs.delta.delta_row.Goals as goal
 
 module _ (option : OptionRow) {amount : ℕ} (is : amount ≡ delta_amount option) {row : Row} where

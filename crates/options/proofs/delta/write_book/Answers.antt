@@ -2,7 +2,6 @@
 use mathlib.Core.Path.{refl}
 use native.Mathlib.Omega.{arith}
 use Rattle.options.proofs.Outcome.{all_fit, book_written}
-use borrow.Author.Rules.{rules}
 use Rattle.options.proofs.delta.write_book.Goals as goal
 
 pub write_class-exchange-requires : goal.write_class-exchange-requires

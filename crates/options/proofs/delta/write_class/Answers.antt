@@ -1,8 +1,7 @@
 -- `options::delta::write_class` meets its contract: the rows before are written.
-use Prim.Native.Nat.{◌-◌}
 use native.Mathlib.Omega.{arith}
 use Rattle.options.proofs.Walking.{each_taken}
-use Rattle.options.proofs.Bytes.{Rows, no_rows, same_room, one_fits, one_more, all_rows}
+use Rattle.options.proofs.Bytes.{no_rows, same_room, one_fits, one_more, all_rows}
 use Rattle.options.proofs.delta.write_class.Goals as goal
 
 pub loop-row-init : goal.loop-row-init

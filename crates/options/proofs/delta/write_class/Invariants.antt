@@ -1,8 +1,6 @@
 -- `options::delta::write_class` meets its contract: the rows before are written.
 use Prim.Native.Nat.{◌-◌}
-use native.Mathlib.Omega.{arith}
-use Rattle.options.proofs.Walking.{each_taken}
-use Rattle.options.proofs.Bytes.{Rows, no_rows, same_room, one_fits, one_more, all_rows}
+use Rattle.options.proofs.Bytes.{Rows}
 use Rattle.options.proofs.delta.write_class.Given as goal
 
 abbrev pub invariant-loop-row : goal.invariant-loop-row

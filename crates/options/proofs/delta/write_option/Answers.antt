@@ -9,7 +9,6 @@ use Rattle.layout.proofs.Rows.{row_length}
 use Rattle.layout.proofs.Writing.{written-nothing}
 use Rattle.options.specs.Delta.{delta_leg}
 use Rattle.options.proofs.Bytes.{bytes_none, bytes_some}
-use borrow.Author.Rules.{rules}
 use Rattle.options.proofs.delta.write_option.Goals as goal
 
 pub write_row-requires : goal.write_row-requires

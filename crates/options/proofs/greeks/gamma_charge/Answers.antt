@@ -1,7 +1,6 @@
 -- `options::greeks::gamma_charge` meets its contract: the sums are the definition's.
 use mathlib.Core.Path.{◌∙◌}
 use Rattle.options.proofs.Gathering.{gamma_is, gamma_fits}
-use borrow.Author.Rules.{rules}
 use Rattle.options.proofs.greeks.gamma_charge.Goals as goal
 
 pub half_shorts-requires : goal.half_shorts-requires

@@ -1,12 +1,7 @@
 -- `options::greeks::gather` meets its contract: the options before are added, and each slot has room for one more.
-use Prim.Native.Nat.{◌-◌, ◌≤◌, ◌<◌}
-use native.Mathlib.Omega.{arith}
-use Rattle.options.specs.Accepted.{Allowed}
+use Prim.Native.Nat.{◌-◌, ◌≤◌}
 use Rattle.options.specs.Inner.Reading.{options_to}
 use Rattle.options.specs.Inner.Sums.{amount_of, most_of, Gathered}
-use Rattle.options.proofs.Walking.{each_taken}
-use Rattle.options.proofs.Gathering.{gathered_none, bought_room, sold_room, gathered_next, gathered_all, room_fits}
-use borrow.Author.Rules.{rules}
 use Rattle.options.proofs.greeks.gather.Given as goal
 
 abbrev pub invariant-loop-row : goal.invariant-loop-row

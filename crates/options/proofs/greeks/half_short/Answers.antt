@@ -1,7 +1,6 @@
 -- `options::greeks::half_short` meets its contract: a half rounded up is a half and what is left.
 use native.Mathlib.Omega.{arith}
 use Rattle.options.specs.Greeks.{half_short}
-use borrow.Author.Rules.{rules}
 use Rattle.options.proofs.greeks.half_short.Goals as goal
 
 pub returns-then-sold-bought : goal.returns-then-sold-bought

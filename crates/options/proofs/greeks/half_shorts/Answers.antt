@@ -1,11 +1,9 @@
 -- `options::greeks::half_shorts` meets its contract: the loop keeps the sum of the groups so far.
-use Prim.Native.Nat.{◌-◌}
 use native.Mathlib.Omega.{arith}
 use lib.ListN.{get_or}
-use Rattle.sums.proofs.Spans.{Summed, summed_none, summed_next, summed_all, sum_room}
+use Rattle.sums.proofs.Spans.{summed_none, summed_next, summed_all, sum_room}
 use Rattle.charges.specs.Inner.Slots.{group_count}
 use Rattle.options.specs.Inner.Sums.{half_excess}
-use borrow.Author.Rules.{rules}
 use Rattle.options.proofs.greeks.half_shorts.Goals as goal
 
 pub loop-group-init : goal.loop-group-init

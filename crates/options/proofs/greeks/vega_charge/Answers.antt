@@ -1,7 +1,6 @@
 -- `options::greeks::vega_charge` meets its contract: the sums are the definition's.
 use native.Mathlib.Omega.{arith}
 use Rattle.options.proofs.Gathering.{sized_bought, sized_sold, vega_fits, vega_is}
-use borrow.Author.Rules.{rules}
 use Rattle.options.proofs.greeks.vega_charge.Goals as goal
 
 pub absolute_nets-requires : goal.absolute_nets-requires

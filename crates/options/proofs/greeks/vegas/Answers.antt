@@ -1,7 +1,6 @@
 -- `options::greeks::vegas` meets its contract: one charge for each class.
 use mathlib.Core.List.{[], ◌∷◌}
 use Rattle.options.specs.Inner.Answers.{each_class}
-use borrow.Author.Rules.{rules}
 use Rattle.options.proofs.greeks.vegas.Goals as goal
 
 pub returns : goal.returns

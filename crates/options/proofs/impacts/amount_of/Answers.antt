@@ -5,7 +5,6 @@ use Prim.Native.Nat.{ℕ, ◌≤◌}
 use Rattle.options.specs.Table.{OptionRow}
 use Rattle.options.specs.Greeks.{twice_gamma, vega_of}
 use Rattle.options.specs.Inner.Sums.{most_twice_gamma, most_vega, amount_of, most_of, AmountOf}
-use borrow.Author.Rules.{rules}
 use Rattle.options.proofs.impacts.amount_of.Goals as goal
 
 module _ {vega : Bool} {option : OptionRow} {r : ℕ} where

@@ -5,7 +5,6 @@ use native.Mathlib.Nat.{mul-le-mul}
 use native.Mathlib.Omega.{arith}
 use Rattle.options.specs.Greeks.{twice_gamma}
 use Rattle.options.proofs.Limits.{of_gamma, of_moves}
-use borrow.Author.Rules.{rules}
 use Rattle.options.proofs.impacts.twice_gamma.Goals as goal
 
 pub overflow_mul-result : goal.overflow_mul-result
@@ -20,8 +19,7 @@ overflow_mul-result-3 c =
 
 pub returns : goal.returns
 unfolding twice_gamma
-returns c =
-    (
-      ap (λ (by : ℕ). c.args.option.amount * c.args.option.gamma * (by * by)) c.move_of-by.ensures.0,
-      of_moves c.args.option c.requires (omega arith) c.move_of-by.ensures.1,
-    )
+returns c = (
+  ap (λ (by : ℕ). c.args.option.amount * c.args.option.gamma * (by * by)) c.move_of-by.ensures.0,
+  of_moves c.args.option c.requires (omega arith) c.move_of-by.ensures.1,
+)

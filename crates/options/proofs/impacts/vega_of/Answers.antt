@@ -3,7 +3,6 @@ use mathlib.Core.Path.{refl}
 use native.Mathlib.Omega.{arith}
 use Rattle.options.specs.Greeks.{vega_of}
 use Rattle.options.proofs.Limits.{two_fields}
-use borrow.Author.Rules.{rules}
 use Rattle.options.proofs.impacts.vega_of.Goals as goal
 
 pub overflow_mul-result : goal.overflow_mul-result

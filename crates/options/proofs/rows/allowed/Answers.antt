@@ -1,7 +1,6 @@
 -- `options::rows::allowed` meets its contract: both tests of the definition.
 use mathlib.Core.Path.{sym, ◌∙◌}
 use Rattle.options.specs.Refusals.{allowed}
-use borrow.Author.Rules.{rules}
 use Rattle.options.proofs.rows.allowed.Goals as goal
 
 pub returns-then-sort_allowed : goal.returns-then-sort_allowed

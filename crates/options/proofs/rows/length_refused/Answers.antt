@@ -8,7 +8,6 @@ use lib.ListN.{length}
 use borrow.Author.Tests.{lt-ltb, le-ltb}
 use Rattle.options.specs.Table.{count_size, option_size, option_count}
 use Rattle.options.specs.Refusals.{most_options, length_refused}
-use borrow.Author.Rules.{rules}
 use Rattle.options.proofs.rows.length_refused.Goals as goal
 
 pub returns-then-table-lt-COUNT_SIZE : goal.returns-then-table-lt-COUNT_SIZE

@@ -2,7 +2,6 @@
 use Prim.Native.Nat.{◌+◌, ◌*◌}
 use Rattle.options.specs.Table.{count_size, option_size, option_at}
 use Rattle.options.proofs.Walking.{option-fields}
-use borrow.Author.Rules.{rules}
 use Rattle.options.proofs.rows.option_at.Goals as goal
 
 pub returns : goal.returns

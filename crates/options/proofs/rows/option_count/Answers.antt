@@ -1,6 +1,5 @@
 -- `options::rows::option_count` meets its contract.
 use Rattle.options.specs.Table.{option_count}
-use borrow.Author.Rules.{rules}
 use Rattle.options.proofs.rows.option_count.Goals as goal
 
 pub returns : goal.returns

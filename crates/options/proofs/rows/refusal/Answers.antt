@@ -3,7 +3,6 @@ use mathlib.Core.Path.{sym, ◌∙◌}
 use Rattle.options.specs.Refusals.{options_refusal}
 use Rattle.options.proofs.Ranges.{table_sized}
 use Rattle.options.proofs.Walking.{whole}
-use borrow.Author.Rules.{rules}
 use Rattle.options.proofs.rows.refusal.Goals as goal
 
 pub returns-then-length_refused : goal.returns-then-length_refused

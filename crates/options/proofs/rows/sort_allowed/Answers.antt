@@ -6,7 +6,6 @@ use lib.Dec.{ltb, leb}
 use borrow.Author.Tests.{leb-true, leb-false, lt-ltb, le-ltb, le-leb, lt-leb}
 use Rattle.book.specs.Refusals.{least_kind, most_kind}
 use Rattle.options.specs.Refusals.{sort_allowed}
-use borrow.Author.Rules.{rules}
 use Rattle.options.proofs.rows.sort_allowed.Goals as goal
 
 -- the code asks whether a kind is wrong, the definition whether it is right

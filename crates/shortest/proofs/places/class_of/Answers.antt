@@ -1,5 +1,4 @@
 -- `shortest::places::class_of` meets its contract: the row is before the first row of the next class, or else in the last one.
-use borrow.Author.Rules.{rules}
 use native.Mathlib.Omega.{arith}
 use Rattle.book.proofs.Placing.{before-none, before-all}
 use Rattle.shortest.proofs.places.class_of.Goals as goal

@@ -1,5 +1,4 @@
 -- `shortest::places::one_in` meets its contract: a test as a number is 1 where it holds.
-use borrow.Author.Rules.{rules}
 use Rattle.sums.proofs.Cases.{as_number}
 use lib.Dec.{eqb}
 use Rattle.shortest.specs.Inner.Places.{one_in}

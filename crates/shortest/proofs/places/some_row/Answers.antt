@@ -1,6 +1,5 @@
 -- `shortest::places::some_row` meets its contract.
 use mathlib.Core.Path.{sym, ◌∙◌}
-use borrow.Author.Rules.{rules}
 use borrow.Author.Tests.{eq-eqb, ne_eqb}
 use Rattle.shortest.specs.Shortest.{some_row}
 use Rattle.shortest.specs.Inner.Places.{one_in}

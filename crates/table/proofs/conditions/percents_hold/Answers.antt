@@ -1,6 +1,5 @@
 -- `table::conditions::percents_hold` meets its contract: the tests are the definition's.
 use Rattle.table.specs.Loaded.{percents_hold}
-use borrow.Author.Rules.{rules}
 use Rattle.table.proofs.conditions.percents_hold.Goals as goal
 
 pub returns : goal.returns

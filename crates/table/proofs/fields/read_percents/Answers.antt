@@ -1,6 +1,5 @@
 -- `table::fields::read_percents` meets its contract: each per cent is its byte.
 use Rattle.table.specs.Loaded.{percents_of}
-use borrow.Author.Rules.{rules}
 use Rattle.table.proofs.fields.read_percents.Goals as goal
 
 pub returns : goal.returns

@@ -1,5 +1,4 @@
 -- `table::fields::read_table` meets its contract: it is what the bytes hold.
-use borrow.Author.Rules.{rules}
 use Rattle.table.specs.Loaded.{table_of}
 use Rattle.table.proofs.fields.read_table.Goals as goal
 

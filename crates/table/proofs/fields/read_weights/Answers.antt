@@ -1,9 +1,7 @@
 -- `table::fields::read_weights` meets its contract: the array is filled band by band.
 use mathlib.Core.Path.{refl}
-use Prim.Native.Nat.{◌-◌}
 use native.Mathlib.Omega.{arith}
-use borrow.Author.Rules.{rules}
-use Rattle.sums.proofs.Filling.{Filled, filled_none, filled_next, filled_all, listed_array}
+use Rattle.sums.proofs.Filling.{filled_none, filled_next, filled_all, listed_array}
 use Rattle.table.specs.Loaded.{table_bands, weight_at}
 use Rattle.table.proofs.fields.read_weights.Goals as goal
 

@@ -1,7 +1,6 @@
 -- `trade::search::after` meets its contract: from the turn on the charge rises.
 use mathlib.Core.Path.{sym, ◌∙◌}
 use native.Mathlib.Omega.{arith}
-use borrow.Author.Rules.{rules}
 use Rattle.trade.proofs.Halving.{found_after_turn, none_past, none_after}
 use Rattle.trade.proofs.search.after.Goals as goal
 

@@ -1,5 +1,4 @@
 -- `trade::search::excess_in` meets its contract.
-use borrow.Author.Rules.{rules}
 use borrow.Author.Tests.{eq-eqb, ne_eqb}
 use Rattle.trade.specs.Inner.Searching.{excess_in}
 use Rattle.trade.proofs.search.excess_in.Goals as goal

@@ -1,7 +1,6 @@
 -- `trade::search::least` meets its contract: nothing to add, or the least amount before the turn, or after it.
 use mathlib.Core.Path.{sym, ◌∙◌}
 use native.Mathlib.Omega.{arith}
-use borrow.Author.Rules.{rules}
 use Rattle.trade.proofs.Searching.{found_at}
 use Rattle.trade.proofs.Halving.{no_weight}
 use Rattle.trade.proofs.search.least.Goals as goal

@@ -1,6 +1,5 @@
 -- `trade::search::open_band` meets its contract: the arrays hold the weighted bands, the open one taken out.
 use native.Mathlib.Omega.{arith}
-use borrow.Author.Rules.{rules}
 use Rattle.ladder.specs.Table.{weight_in}
 use Rattle.trade.proofs.Opening.{whole_fits, each_fits, parts_fit, opened_of}
 use Rattle.trade.proofs.search.open_band.Goals as goal

@@ -1,7 +1,6 @@
 -- `trade::search::turn` meets its contract: the nets of the zones and the open band make the whole net.
 use mathlib.Core.Path.{◌≡◌, sym, ap, subst, ◌∙◌}
 use Prim.Native.Nat.{ℕ, ◌/◌, ◌<◌, ◌≤◌}
-use borrow.Author.Rules.{rules}
 use Rattle.trade.specs.Trade.{most_trade}
 use Rattle.ladder.specs.declared.positions.Position.{Position}
 use Rattle.ladder.specs.Position.{◌⊕◌}

@@ -1,9 +1,6 @@
 -- `trade::search::up_to` meets its contract: one end stays over the limit and the other within it, and what lies between is halved.
 use mathlib.Core.Path.{sym, ◌∙◌}
-use Prim.Native.Nat.{◌-◌, ◌≤◌, ◌<◌}
 use native.Mathlib.Omega.{arith}
-use borrow.Author.Rules.{rules}
-use Rattle.trade.specs.Inner.Searching.{open_charge}
 use Rattle.trade.proofs.Halving.{after_nothing, found_between}
 use Rattle.trade.proofs.search.up_to.Goals as goal
 

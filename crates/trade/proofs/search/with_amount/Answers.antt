@@ -1,6 +1,5 @@
 -- `trade::search::with_amount` meets its contract.
 use native.Mathlib.Omega.{arith}
-use borrow.Author.Rules.{rules}
 use borrow.Author.Tests.{eq-eqb, ne_eqb}
 use Rattle.ladder.proofs.Matching.{same_position}
 use Rattle.trade.proofs.search.with_amount.Goals as goal

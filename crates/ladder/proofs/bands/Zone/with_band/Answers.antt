@@ -1,5 +1,4 @@
 -- `ladder::bands::Zone::with_band` meets its contract.
-use borrow.Author.Rules.{rules}
 use Rattle.ladder.proofs.Gathering.{zone_in_steps}
 use Rattle.ladder.proofs.bands.Zone.with_band.Goals as goal
 

@@ -1,5 +1,4 @@
 -- `ladder::positions::Position::against` meets its contract: the smaller of opposite sides comes off each.
-use borrow.Author.Rules.{rules}
 use native.Mathlib.Omega.{arith}
 use Rattle.ladder.specs.Interest.{against, left}
 use Rattle.ladder.proofs.Matching.{same_position}

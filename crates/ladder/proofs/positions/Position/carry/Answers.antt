@@ -1,5 +1,4 @@
 -- `ladder::positions::Position::carry` meets its contract: the sum, and then its net.
-use borrow.Author.Rules.{rules}
 use Rattle.ladder.specs.Inner.Steps.{net_step, carried_step}
 use native.Mathlib.Omega.{arith}
 use Rattle.ladder.proofs.positions.Position.carry.Goals as goal

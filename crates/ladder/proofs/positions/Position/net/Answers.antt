@@ -1,5 +1,4 @@
 -- `ladder::positions::Position::net` meets its contract: the smaller side comes off both.
-use borrow.Author.Rules.{rules}
 use native.Mathlib.Omega.{arith}
 use Rattle.ladder.specs.Position.{matched, net}
 use Rattle.ladder.specs.Inner.Steps.{net_step}

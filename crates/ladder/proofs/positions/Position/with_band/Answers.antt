@@ -1,5 +1,4 @@
 -- `ladder::positions::Position::with_band` meets its contract: the band's net, and then the sum.
-use borrow.Author.Rules.{rules}
 use native.Mathlib.Omega.{arith}
 use Rattle.ladder.proofs.Stepping.{band_in_steps}
 use Rattle.ladder.proofs.positions.Position.with_band.Goals as goal

@@ -1,5 +1,4 @@
 -- `ladder::whole::Gathered::with_band` meets its contract: the band's zone takes the position, the others stay.
-use borrow.Author.Rules.{rules}
 use Rattle.ladder.proofs.OneBand.{with_first, with_second, with_third}
 use Rattle.ladder.proofs.whole.Gathered.with_band.Goals as goal
 

@@ -1,6 +1,5 @@
 -- `ladder::zones::Ladder::cross` meets its contract: each step begins with what the one before it left.
 use Rattle.ladder.proofs.Stepping.{cross_in_steps}
-use borrow.Author.Rules.{rules}
 use Rattle.ladder.proofs.zones.Ladder.cross.Goals as goal
 
 pub returns : goal.returns

@@ -1,7 +1,6 @@
 -- `ladder::zones::Ladder::residual` meets its contract: the three zones put together, and then their net.
 use native.Mathlib.Omega.{arith}
 use Rattle.ladder.proofs.Stepping.{residual_in_steps}
-use borrow.Author.Rules.{rules}
 use Rattle.ladder.proofs.zones.Ladder.residual.Goals as goal
 
 pub returns : goal.returns

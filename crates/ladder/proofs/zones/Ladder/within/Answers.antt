@@ -1,5 +1,4 @@
 -- `ladder::zones::Ladder::within` meets its contract: the net of each zone.
-use borrow.Author.Rules.{rules}
 use native.Mathlib.Omega.{arith}
 use Rattle.ladder.proofs.Stepping.{within_in_steps}
 use Rattle.ladder.proofs.zones.Ladder.within.Goals as goal

@@ -1,5 +1,4 @@
 -- `ladder::zones::Ladder::zones12` meets its contract: zone 3 stays as it was.
-use borrow.Author.Rules.{rules}
 use Rattle.ladder.specs.Interest.{zones12}
 use native.Mathlib.Omega.{arith}
 use Rattle.ladder.proofs.zones.Ladder.zones12.Goals as goal

@@ -1,5 +1,4 @@
 -- `ladder::zones::Ladder::zones13` meets its contract: zone 2 stays as it was.
-use borrow.Author.Rules.{rules}
 use Rattle.ladder.specs.Interest.{zones13}
 use native.Mathlib.Omega.{arith}
 use Rattle.ladder.proofs.zones.Ladder.zones13.Goals as goal

@@ -1,5 +1,4 @@
 -- `ladder::zones::Ladder::zones23` meets its contract: zone 1 stays as it was.
-use borrow.Author.Rules.{rules}
 use Rattle.ladder.specs.Interest.{zones23}
 use native.Mathlib.Omega.{arith}
 use Rattle.ladder.proofs.zones.Ladder.zones23.Goals as goal
