@@ -1,6 +1,5 @@
 -- `market_risk_check` meets its contract: the entries are those of the refusal.
 use mathlib.Core.Path.{ap}
-use borrow.Author.Rules.{rules}
 use Rattle.market_risk.specs.Entries.{refusal_entries}
 use Rattle.market_risk.proofs.market_risk_check.Goals as goal
 

@@ -1,6 +1,5 @@
 -- `market_risk_commodity_ladder` meets its contract: the entries are those of the ladder.
 use mathlib.Core.Path.{ap}
-use borrow.Author.Rules.{rules}
 use Rattle.market_risk.specs.Entries.{refusal_entries, commodity_entries}
 use Rattle.market_risk.proofs.market_risk_commodity_ladder.Goals as goal
 

@@ -2,7 +2,6 @@
 use mathlib.Core.Path.{ap, ◌∙◌}
 use mathlib.Core.List.{List, [], ◌∷◌, ◌++◌}
 use Prim.Native.Nat.{ℕ}
-use borrow.Author.Rules.{rules}
 use Rattle.sums.proofs.Cases.{as_number}
 use Rattle.market_risk.specs.Entries.{refusal_entries, trade_entries}
 use Rattle.market_risk.proofs.market_risk_least_trade.Goals as goal

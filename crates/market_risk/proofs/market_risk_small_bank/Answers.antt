@@ -1,6 +1,5 @@
 -- `market_risk_small_bank` meets its contract: the entries are those of the figures.
 use mathlib.Core.Path.{ap}
-use borrow.Author.Rules.{rules}
 use Rattle.market_risk.specs.Entries.{refusal_entries, small_figures, small_entries}
 use Rattle.market_risk.proofs.market_risk_small_bank.Goals as goal
 

@@ -2,12 +2,11 @@
 -- Assumes nothing.
 use mathlib.Core.Path.{◌≡◌, ◌∙◌}
 use mathlib.Core.List.{append_assoc}
-use Prim.Native.Nat.{◌+◌, ◌-◌, ◌≤◌}
+use Prim.Native.Nat.{◌+◌}
 use native.Mathlib.Numerals.{add-one}
 use native.Mathlib.Omega.{arith}
-use borrow.Author.Rules.{rules}
 use lib.ListN.{length, take, drop, length-set}
-use lib.Seq.{take-length, paste, paste-zero, paste-suc}
+use lib.Seq.{take-length, paste-zero, paste-suc}
 use Rattle.layout.specs.Written.{written}
 use Rattle.market_risk.proofs.write_entries.Goals as goal
 

@@ -1,6 +1,5 @@
 -- `market_risk::writing::entries` meets its contract.
 use mathlib.Core.Path.{refl}
-use borrow.Author.Rules.{rules}
 use Rattle.market_risk.specs.Entries.{refusal_entries}
 use Rattle.market_risk.proofs.writing.entries.Goals as goal
 

@@ -1,6 +1,5 @@
 -- `market_risk_dearest` meets its contract: the entries are those of the answer, and the output is the call's.
 use mathlib.Core.Path.{ap, ◌∙◌}
-use borrow.Author.Rules.{rules}
 use Rattle.market_risk.specs.Entries.{costed_entries}
 use Rattle.market_risk.proofs.writing.market_risk_dearest.Goals as goal
 

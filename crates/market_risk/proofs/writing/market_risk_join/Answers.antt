@@ -1,6 +1,5 @@
 -- `market_risk_join` meets its contract: the entries are those of the answer, and the output is join's.
 use mathlib.Core.Path.{ap}
-use borrow.Author.Rules.{rules}
 use Rattle.market_risk.specs.Entries.{refusal_entries, joined_entries}
 use Rattle.market_risk.proofs.writing.market_risk_join.Goals as goal
 

@@ -1,6 +1,5 @@
 -- `market_risk_offset` meets its contract: the entries are those of the answer, and the output is offsetting's.
 use mathlib.Core.Path.{ap}
-use borrow.Author.Rules.{rules}
 use Rattle.market_risk.specs.Entries.{refusal_entries, written_entries}
 use Rattle.market_risk.proofs.writing.market_risk_offset.Goals as goal
 

@@ -3,7 +3,6 @@ use mathlib.Core.Path.{◌≡◌, refl, ap, ◌∙◌}
 use mathlib.Core.List.{List, [], ◌∷◌}
 use Prim.Native.Nat.{ℕ}
 use lib.ListN.{length, get_or}
-use borrow.Author.Rules.{rules}
 use Rattle.options.specs.declared.Priced.{Priced}
 use Rattle.options.specs.Options.{by_class, priced_of}
 use Rattle.market_risk.specs.Entries.{refusal_entries, report_figures, priced_entries}

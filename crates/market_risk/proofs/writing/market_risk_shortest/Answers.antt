@@ -2,7 +2,6 @@
 use mathlib.Core.Path.{ap, ◌∙◌}
 use mathlib.Core.List.{List, [], ◌∷◌, ◌++◌}
 use Prim.Native.Nat.{ℕ}
-use borrow.Author.Rules.{rules}
 use Rattle.sums.proofs.Cases.{as_number}
 use Rattle.market_risk.specs.Entries.{refusal_entries, shown_entries}
 use Rattle.market_risk.proofs.writing.market_risk_shortest.Goals as goal
