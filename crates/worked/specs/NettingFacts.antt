@@ -1,5 +1,5 @@
 -- Netting one issue (P1), worked by hand: what is written, what is told no and where, and E4 joined and netted.
-use Rattle.std.specs.Prelude.{ℕ, List, [], ◌∷◌, length, replicate}
+use Rattle.std.specs.Prelude.{ℕ, List, [], ◌∷◌, replicate}
 use Rattle.book.specs.Legs.{Leg}
 use Rattle.layout.specs.Files.{book_of}
 use Rattle.netting.specs.Netted.{issues_refusal, netted_book, netted_of, netting_output}
