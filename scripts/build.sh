@@ -31,7 +31,8 @@ whole() {
     case $(nm "$archive" 2>/dev/null) in *' market_risk_charge'*) ;; *) return 1 ;; esac
 }
 
-# Tells of each crate as it is proved, and what rt says itself, and leaves the prover's text to the log.
+# Tells of each crate as it is proved, and what rt says itself, and leaves the prover's text to the
+# log.
 crate_by_crate() {
     local line crate=
     while IFS= read -r line; do
