@@ -17,7 +17,7 @@ use Rattle.book.proofs.Bodies.{whole_file}
 use Rattle.book.proofs.Acceptance.{accepted, refused-with_none}
 use Rattle.book.proofs.Handing.{part_lies, part_within}
 use Rattle.table.proofs.Accepting.{described, taken, standard_accepted}
-use Rattle.claims.specs.Demands.{AcceptingHolds, AcceptingTableHolds, StandardHolds, HandingHolds}
+use Rattle.claims.specs.Demands.{AcceptingHolds, AcceptingTableHolds, StandardHolds, HandingHolds, PartPlacesHolds}
 
 pub accepting : AcceptingHolds
 accepting s = record { described = accepted s; taken = refused-with_none s }
@@ -62,11 +62,16 @@ handing s =
     record {
       whole = λ e. simp (eq-eqb _ _ e) (whole_file s (accepted s e).sized);
       empty = λ bad. also (nothing bad 1) (also (nothing bad 2) (also (nothing bad 3) (also (nothing bad 4) none)));
+    }
+  where
+    nothing : ((refusal_of s).number ≡ 0 → ⊥) → (class : ℕ) → part_of s class ≡ []
+    nothing bad class = simp (ne_eqb _ _ bad)
+
+pub part_places : PartPlacesHolds
+part_places s =
+    record {
       lies = part_lies s;
       within = part_within s;
       of_refused = nowhere s;
       of_no_class = λ class none_of. no_place s class none_of;
     }
-  where
-    nothing : ((refusal_of s).number ≡ 0 → ⊥) → (class : ℕ) → part_of s class ≡ []
-    nothing bad class = simp (ne_eqb _ _ bad)

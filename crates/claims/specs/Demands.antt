@@ -34,13 +34,17 @@ AcceptingTableHolds = (bytes : List ℕ) → AcceptingTable bytes
 abbrev pub StandardHolds : Type 0
 StandardHolds = table_refusal standard_bytes ≡ 0
 
--- ---- what each class is handed: of an accepted book the parts follow the contents and are the
--- rest of the file; of a refused one each is empty. Of any book and any number, the part is what
--- lies from its start on, of its length, within the file; both are 0 of a refused book, and of a
--- number that is no class
+-- ---- what each class is handed: of an accepted book the parts follow the contents and are the rest of the file; of a refused one each is empty
 pub record Handing (s : List ℕ) : Type 0 where
   pub whole : (refusal_of s).number ≡ 0 → take contents_size s ++ flat_map (part_of s) classes ≡ s
   pub empty : ((refusal_of s).number ≡ 0 → ⊥) → Every (λ class. part_of s class ≡ []) classes
+
+abbrev pub HandingHolds : Type 0
+HandingHolds = (s : List ℕ) → Handing s
+
+-- of any book and any number, the part is what lies from its start on, of its length, within the
+-- file; both are 0 of a refused book, and of a number that is no class
+pub record PartPlaces (s : List ℕ) : Type 0 where
   pub lies : (class : ℕ) → take (part_length s class) (drop (part_start s class) s) ≡ part_of s class
   pub within : (class : ℕ) → part_start s class + part_length s class ≤ length s
   pub of_refused : ((refusal_of s).number ≡ 0 → ⊥) → (class : ℕ)
@@ -48,8 +52,8 @@ pub record Handing (s : List ℕ) : Type 0 where
   pub of_no_class : (class : ℕ) → (class ≡ 0) ⊎ (4 < class)
       → (part_start s class ≡ 0) × (part_length s class ≡ 0)
 
-abbrev pub HandingHolds : Type 0
-HandingHolds = (s : List ℕ) → Handing s
+abbrev pub PartPlacesHolds : Type 0
+PartPlacesHolds = (s : List ℕ) → PartPlaces s
 
 -- ---- joining
 -- each figure of a list is at most the one in its place

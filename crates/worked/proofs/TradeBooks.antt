@@ -3,7 +3,7 @@
 use Prim.Native.Nat.{ℕ, zero, suc, ◌<◌}
 use mathlib.Core.Path.{◌≡◌, refl, ap₂}
 use mathlib.Core.Bool.{Bool, true, false, ◌&&◌}
-use mathlib.Core.List.{List, [], ◌∷◌, ◌++◌}
+use mathlib.Core.List.{List, [], ◌∷◌, ◌++◌, map}
 use native.Mathlib.Omega.{arith}
 use native.Mathlib.Decide.{ℕ_discrete}
 use native.Mathlib.Numerals.{lt_of_le_of_ne}
@@ -28,9 +28,9 @@ all_over charge limit zero = true
 all_over charge limit (suc amount) = ltb limit (charge amount) && all_over charge limit amount
 
 -- what computes; the search through 1,000,001 amounts does not
-unfoldable pub traded : List Worked → List Worked
+unfoldable pub traded : List Worked → List (List ℕ)
 unfolding computed trade_entries charge_with place_refusal trade_refusal with_row all_over
-traded facts = facts
+traded facts = map (λ w. w.given) facts
 
 each_over : (charge : ℕ → ℕ) (limit amount : ℕ) → all_over charge limit amount ≡ true → (j : ℕ) → j < amount → limit < charge j
 unfolding all_over
@@ -59,7 +59,7 @@ answered table book group band side limit amount is inside within over =
 and_next : {a b : List ℕ} {l m : List (List ℕ)} → a ≡ b → l ≡ m → a ∷ l ≡ b ∷ m
 and_next = ap₂ ◌∷◌
 
-pub trade_facts_lem : Hold trade_facts
+pub trade_facts_lem : traded trade_facts ≡ map (λ w. w.expected) trade_facts
 unfolding traded trade_facts
 trade_facts_lem =
     and_next (answered standard_bytes one_bond 7 5 0 1750000 0 refl refl refl refl)
@@ -67,7 +67,7 @@ trade_facts_lem =
     (and_next (answered standard_bytes one_bond 7 5 1 1734250 1 refl refl refl refl)
     (and_next (answered standard_bytes one_bond 7 5 1 1734249 2 refl refl refl refl) refl)))
 
-pub band_facts_lem : Hold band_facts
+pub band_facts_lem : traded band_facts ≡ map (λ w. w.expected) band_facts
 unfolding traded band_facts
 band_facts_lem =
     and_next (answered standard_bytes one_bond 7 4 1 1741250 1 refl refl refl refl)
@@ -75,7 +75,7 @@ band_facts_lem =
     (and_next (answered standard_bytes one_bond 7 7 1 1733500 1 refl refl refl refl)
     (and_next (answered standard_bytes one_bond 8 5 1 0 0 refl refl refl refl) refl)))
 
-pub turn_facts : Hold turning_facts
+pub turn_facts : traded turning_facts ≡ map (λ w. w.expected) turning_facts
 unfolding traded turning_facts
 turn_facts = and_next refl (and_next (answered standard_bytes fifth 31 5 1 84000 6 refl refl refl refl) refl)
 
@@ -90,7 +90,7 @@ told : (table book : List ℕ) (group band side limit : ℕ) (refusal : Refusal)
 unfolding trade_entries least_trade_of refusal_entries
 told table book group band side limit refusal is refused = rw (is, refused) refl
 
-pub place_facts_lem : Hold place_facts
+pub place_facts_lem : traded place_facts ≡ map (λ w. w.expected) place_facts
 unfolding traded place_facts
 place_facts_lem =
     and_next (told [] [] 32 15 2 0 _ refl refl)

@@ -1,7 +1,8 @@
 -- E1 to E10, and the facts that they leave open: the definitions give document 01's figures, by computation.
 -- Assumes nothing.
-use mathlib.Core.Path.{refl}
-use mathlib.Core.List.{List, flat_map}
+use mathlib.Core.Path.{◌≡◌, refl}
+use mathlib.Core.List.{List, map, flat_map}
+use Prim.Native.Nat.{ℕ}
 use native.Mathlib.Decide.{ℕ_discrete}
 use Rattle.sums.specs.Sums.{sum_of, span}
 use Rattle.book.specs.Fields.{u16_at, u32_at}
@@ -68,48 +69,62 @@ unfoldable pub computed : List Worked → List Worked
 unfolding file refusals ladders tables writing weights charges answers report_with refused_report charged_report before report_of ladder_refusal interest_ladder_of commodity_ladder_of small_number small_refusal small_with small_bank_of
 computed facts = facts
 
-pub worked-books : WorkedHolds
-unfolding computed worked
+-- given and expected, of facts
+unfoldable pub given : List Worked → List (List ℕ)
+unfolding computed
+given facts = map (λ w. w.given) facts
+
+pub expected : List Worked → List (List ℕ)
+unfolding span
+expected facts = map (λ w. w.expected) facts
+
+pub worked-books : given worked ≡ expected worked
+unfolding given expected worked
 worked-books = refl
 
-pub table_facts_lem : Hold table_facts
-unfolding computed table_facts
+-- so each of the table's books gives what is expected
+pub worked_hold : WorkedHolds
+unfolding given expected
+worked_hold = worked-books
+
+pub table_facts_lem : given table_facts ≡ expected table_facts
+unfolding given expected table_facts
 table_facts_lem = refl
 
-pub cost_facts_lem : Hold cost_facts
-unfolding computed cost_facts
+pub cost_facts_lem : given cost_facts ≡ expected cost_facts
+unfolding given expected cost_facts
 cost_facts_lem = refl
 
-pub currency-facts : Hold currency_facts
-unfolding computed currency_facts
+pub currency-facts : given currency_facts ≡ expected currency_facts
+unfolding given expected currency_facts
 currency-facts = refl
 
-pub ladder_facts_lem : Hold ladder_facts
-unfolding computed ladder_facts
+pub ladder_facts_lem : given ladder_facts ≡ expected ladder_facts
+unfolding given expected ladder_facts
 ladder_facts_lem = refl
 
-pub refusal_facts_lem : Hold refusal_facts
-unfolding computed refusal_facts
+pub refusal_facts_lem : given refusal_facts ≡ expected refusal_facts
+unfolding given expected refusal_facts
 refusal_facts_lem = refl
 
-pub refused-tables : Hold refused_tables
-unfolding computed refused_tables
+pub refused-tables : given refused_tables ≡ expected refused_tables
+unfolding given expected refused_tables
 refused-tables = refl
 
-pub loaded_facts_lem : Hold loaded_facts
-unfolding computed loaded_facts
+pub loaded_facts_lem : given loaded_facts ≡ expected loaded_facts
+unfolding given expected loaded_facts
 loaded_facts_lem = refl
 
-pub order_facts_lem : Hold order_facts
-unfolding computed order_facts
+pub order_facts_lem : given order_facts ≡ expected order_facts
+unfolding given expected order_facts
 order_facts_lem = refl
 
-pub small_facts_lem : Hold small_facts
-unfolding computed small_facts
+pub small_facts_lem : given small_facts ≡ expected small_facts
+unfolding given expected small_facts
 small_facts_lem = refl
 
-pub join_facts_lem : Hold join_facts
-unfolding computed join_facts
+pub join_facts_lem : given join_facts ≡ expected join_facts
+unfolding given expected join_facts
 join_facts_lem = refl
 
 pub part_facts_lem : Hold part_facts

@@ -24,7 +24,7 @@ use Rattle.charges.specs.SmallBank.{small_refusal, small_bank_of}
 use Rattle.claims.specs.AddingUp.{weighted_sum, plain_sum}
 use Rattle.claims.specs.Orders.{mirrored_row, ReorderedBook, MirroredBook}
 use Rattle.claims.proofs.Writing.{classes-each, each_class_lem}
-use Rattle.claims.proofs.Reader.{accepting, accepting_table, standard, handing}
+use Rattle.claims.proofs.Reader.{accepting, accepting_table, standard, handing, part_places}
 use Rattle.claims.proofs.Ordering.{ordering}
 use Rattle.claims.proofs.SmallBank.{small_ordering}
 use Rattle.claims.proofs.Currencies.{splitting}
@@ -69,18 +69,18 @@ empty-says s some = each_class_lem ((handing s).empty some)
 pub lies_says : (s : List ℕ) (class : ℕ)
     → (take (part_length s class) (drop (part_start s class) s) ≡ part_of s class)
     × (part_start s class + part_length s class ≤ length s)
-lies_says s class = ((handing s).lies class, (handing s).within class)
+lies_says s class = ((part_places s).lies class, (part_places s).within class)
 
 pub nowhere_says : (s : List ℕ) → ((refusal_of s).number ≡ 0 → ⊥) → (class : ℕ)
     → (part_start s class ≡ 0) × (part_length s class ≡ 0)
-nowhere_says s = (handing s).of_refused
+nowhere_says s = (part_places s).of_refused
 
 pub no_class_says : (s : List ℕ) (class : ℕ)
     → (part_start s 0 ≡ 0) × (part_length s 0 ≡ 0)
     × (5 ≤ class → (part_start s class ≡ 0) × (part_length s class ≡ 0))
 no_class_says s class =
-    let zeroth = (handing s).of_no_class 0 (inl refl) in
-    (zeroth.0, zeroth.1, λ past. (handing s).of_no_class class (inr past))
+    let zeroth = (part_places s).of_no_class 0 (inl refl) in
+    (zeroth.0, zeroth.1, λ past. (part_places s).of_no_class class (inr past))
 
 -- ---- order and mirror
 -- each row of one list is as often in the other
