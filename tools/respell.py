@@ -1,27 +1,36 @@
 #!/usr/bin/env python3
 """Brings the repository's own names to the spelling of today's Rattle, after port.py.
 
-usage: python3 tools/respell.py [FOLDER]     rewrites crates/, README.md and docs/ of FOLDER (else of this repository)
+usage: python3 tools/respell.py [FOLDER]
+rewrites crates/, README.md and docs/ of FOLDER (else of this repository)
 
-Definitions, fields, constructors and lemmas are in snake case. A dash stays where it joins a definition's name to what a lemma says
-of it, as in `net-joined`; between plain words it is an underscore. A lemma that would have another name's spelling gets `_lem`.
-Functions of src/, exported names, strings, inputs and outputs keep their names.
+Definitions, fields, constructors and lemmas are in snake case. A dash stays where it joins a
+definition's name to what a lemma says of it, as in `net-joined`; between plain words it is an
+underscore. A name that would have another's spelling gets `_lem`. Functions of src/, exported names,
+strings, inputs and outputs keep their names. In pages a command may have a lemma's old name, as
+`least-trade`: read their diff.
 """
 
 import os
 import re
 import sys
 
-ROOT = os.path.abspath(sys.argv[1]) if len(sys.argv) > 1 else os.path.join(os.path.dirname(os.path.abspath(__file__)), "..")
+HERE = os.path.dirname(os.path.abspath(__file__))
+ROOT = os.path.abspath(sys.argv[1]) if len(sys.argv) > 1 else os.path.join(HERE, "..")
 DECLARED = re.compile(r"^(\s*)((?:pub |abbrev |unfoldable |data |record )*)([^\s:(){}.,;λ]+) :( |$)")
 TOKEN = re.compile(r"[^\s(){}\[\].,;:\"`|]+")
 STRING = re.compile(r'("[^"\n]*")')
 QUOTED = re.compile(r"`[^`\n]+`")
 GOAL = re.compile(r"\bNeed-(\S+)")
-# Definitions whose name in snake case a lemma or a function of src/ has.
 # Names of the library's that lemmas here have too.
 KEPT = {"not-false"}
-CHOSEN = {"rowCount": "count_of_rows", "twoBytes": "two_bytes_of", "fourBytes": "four_bytes_of", "turnFacts": "turning_facts"}
+# Definitions whose name in snake case a lemma or a function of src/ has.
+CHOSEN = {
+    "rowCount": "count_of_rows",
+    "twoBytes": "two_bytes_of",
+    "fourBytes": "four_bytes_of",
+    "turnFacts": "turning_facts",
+}
 
 
 def files(suffixes, *tops):
@@ -88,7 +97,8 @@ def table():
         parts = [snake(p) for p in n.split("-")]
         to = parts[0]
         for i, part in enumerate(parts[1:]):
-            joins = (i == 0 and to in heads and to not in ("no", "of", "both", "none", "all")) or not part[:1].islower() or not parts[0][:1].islower()
+            of_head = i == 0 and to in heads and to not in ("no", "of", "both", "none", "all")
+            joins = of_head or not part[:1].islower() or not parts[0][:1].islower()
             to += ("-" if joins else "_") + part
         if to != n:
             if to in taken:

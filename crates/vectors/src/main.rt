@@ -3,6 +3,7 @@
 // off is read as if zeros followed, and 0 is its end.
 #![tactic(auto)]
 
+mod figures;
 mod input;
 mod lines;
 
