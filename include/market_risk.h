@@ -48,10 +48,10 @@
  *     market_risk_net              81000
  *     market_risk_offset           65000
  *     market_risk_net_and_offset   82000
- *     market_risk_shortest           200
+ *     market_risk_shortest           300
  *     market_risk_dearest            100
- *     market_risk_options          17000
- *     market_risk_least_trade       1900
+ *     market_risk_options          17200
+ *     market_risk_least_trade       2000
  *
  * The charge, the small bank, netting, offsetting and options call memset or memcpy. Where the
  * loader binds these at their first call, that takes some 3000 bytes more, once.

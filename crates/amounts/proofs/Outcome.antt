@@ -7,21 +7,20 @@ use native.Mathlib.Nat.{zero-add}
 use native.Mathlib.Omega.{arith}
 use lib.ListN.{length, length-append}
 use Rattle.book.specs.declared.Counts.{Counts}
-use Rattle.book.specs.Counts.{contents_size, row_size, classes, counts_of, rows_before, count_of_rows, body_of}
-use Rattle.book.specs.declared.Refusal.{Refusal}
+use Rattle.book.specs.Counts.{contents_size, row_size, classes, counts_of, rows_before, count_of_rows}
 use Rattle.book.specs.declared.Row.{Row}
 use Rattle.book.specs.Legs.{legs_of, of_class}
 use Rattle.book.specs.Accepted.{Accepted}
-use Rattle.book.proofs.ClassRows.{part_rows_lem, class_size}
+use Rattle.book.proofs.ClassRows.{class_size}
 use Rattle.ladder.specs.Position.{Bands}
 use Rattle.layout.specs.Written.{written}
-use Rattle.layout.specs.declared.Written.{Written}
-use Rattle.layout.specs.Room.{room_refusal, written_of, output_of}
-use Rattle.layout.specs.Files.{row_bytes, contents_bytes, file_of, counts_by, book_by}
+use Rattle.layout.specs.Room.{Written, room_refusal, written_of, output_of}
+use Rattle.layout.specs.Files.{contents_bytes, file_of, counts_by, book_by}
 use Rattle.layout.proofs.Writing.{written_after}
 use Rattle.layout.proofs.Whole.{contents_length}
 use Rattle.layout.proofs.Rows.{book_length, book_same}
-use Rattle.amounts.specs.Inner.Standing.{positions_in, standing_rows, standing, standing_book, Stands}
+use Rattle.amounts.specs.declared.positions.Amounts.{Amounts}
+use Rattle.amounts.specs.Inner.Standing.{positions_in, standing, standing_book, Stands, standing_of, standing_output}
 use Rattle.amounts.specs.Inner.Counting.{left_rows, class_left, left_counts}
 use Rattle.amounts.specs.Inner.Writing.{standing_body}
 use Rattle.amounts.proofs.Standing.{standing-length}
@@ -45,53 +44,40 @@ module _ (s : List ℕ) (ok : Accepted s) (positions : Bands) where
         commodity = counted 4 (omega arith) (omega arith) i;
       }
 
-  body_is : (class : ℕ) → 1 ≤ class → class ≤ 4 → standing_body positions counts s class ≡ flat_map row_bytes (standing positions s class)
-  unfolding standing_body body_of
-  body_is class low high = ap (flat_map row_bytes) (ap (standing_rows positions (rows_before counts class)) (part_rows_lem s ok class low high))
-
-  bodies_are : flat_map (standing_body positions counts s) classes ≡ flat_map (λ class. flat_map row_bytes (standing positions s class)) classes
-  unfolding flat_map
-  bodies_are =
-      rw (
-        body_is 1 (omega arith) (omega arith),
-        body_is 2 (omega arith) (omega arith),
-        body_is 3 (omega arith) (omega arith),
-        body_is 4 (omega arith) (omega arith),
-      )
-
   -- ---- the contents and then the bodies
   abbrev contents : List ℕ
   contents = contents_bytes (counts_by (standing positions s))
 
   abbrev bodies : List ℕ
-  bodies = flat_map (λ class. flat_map row_bytes (standing positions s class)) classes
+  bodies = flat_map (standing_body positions s) classes
 
   pub size_is : contents_size + row_size * count_of_rows (left_counts positions counts) ≡ length (standing_book positions s)
   unfolding standing_book
   size_is = rw counts_are (sym (book_length (standing positions s)))
 
-  pub bodies_size : contents_size + length (flat_map (standing_body positions counts s) classes) ≡ length (standing_book positions s)
+  pub bodies_size : contents_size + length (flat_map (standing_body positions s) classes) ≡ length (standing_book positions s)
   unfolding standing_book book_by file_of
-  bodies_size = rw bodies_are (sym (length-append contents bodies ∙ ap (λ (n : ℕ). n + length bodies) (contents_length (counts_by (standing positions s)))))
+  bodies_size = sym (length-append contents bodies ∙ ap (λ (n : ℕ). n + length bodies) (contents_length (counts_by (standing positions s))))
 
   pub writes-whole : (out : List ℕ) → length (standing_book positions s) ≤ length out
-      → written (written out 0 (contents_bytes (left_counts positions counts))) contents_size (flat_map (standing_body positions counts s) classes) ≡ written out 0 (standing_book positions s)
+      → written (written out 0 (contents_bytes (left_counts positions counts))) contents_size (flat_map (standing_body positions s) classes) ≡ written out 0 (standing_book positions s)
   unfolding standing_book book_by file_of
   writes-whole out room =
       let all : length contents + length bodies ≤ length out = rw (length-append contents bodies) at room in
-      rw (counts_are, bodies_are, ← contents_length (counts_by (standing positions s))) (rw zero-add at (written_after out contents bodies 0 (omega arith)))
+      rw (counts_are, ← contents_length (counts_by (standing positions s))) (rw zero-add at (written_after out contents bodies 0 (omega arith)))
 
--- the book of the rows that the tables make, as it is written
-module _ {s : List ℕ} {rows : ℕ → List Row} {longs shorts : List ℕ} (now : Stands s rows longs shorts) where
-  stands_book : standing_book (positions_in longs shorts) s ≡ book_by rows
+-- the book of the rows that the amounts make, as it is written
+module _ {s : List ℕ} {rows : ℕ → List Row} {amounts : Amounts} (now : Stands s rows amounts) where
+  stands_book : standing_book (positions_in amounts) s ≡ book_by rows
   unfolding standing_book
-  stands_book = book_same (standing (positions_in longs shorts) s) rows now.each
+  stands_book = book_same (standing (positions_in amounts) s) rows now.each
 
   pub stands_written : (out : List ℕ) {done : Written}
-      → done ≡ written_of (room_refusal (length (standing_book (positions_in longs shorts) s)) (length out)) (standing_book (positions_in longs shorts) s)
+      → done ≡ standing_of (positions_in amounts) s (length out)
       → done ≡ written_of (room_refusal (length (book_by rows)) (length out)) (book_by rows)
   stands_written out is = rw stands_book at is
 
-  pub stands_output : (refusal : Refusal) (out : List ℕ) {after : List ℕ}
-      → after ≡ output_of refusal (standing_book (positions_in longs shorts) s) out → after ≡ output_of refusal (book_by rows) out
-  stands_output refusal out is = rw stands_book at is
+  pub stands_output : (out : List ℕ) {after : List ℕ}
+      → after ≡ standing_output (positions_in amounts) s out
+      → after ≡ output_of (room_refusal (length (book_by rows)) (length out)) (book_by rows) out
+  stands_output out is = rw stands_book at is

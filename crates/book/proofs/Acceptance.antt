@@ -15,7 +15,8 @@ use Rattle.book.specs.Rows.{rows_of, decode}
 use Rattle.book.specs.Legs.{Leg, leg_of, legs_of}
 use Rattle.book.specs.Refusals.{Refusal, row_refusal, contents_refusal, refused, first_refusal, refusal_of}
 use Rattle.book.specs.Accepted.{Clean, Accepted}
-use Rattle.book.specs.Inner.Reading.{Checked, checked_with, checked_of, Sized, ReadOf}
+use Rattle.book.specs.Parts.{accepts}
+use Rattle.book.specs.Inner.Reading.{Sized}
 use Rattle.book.proofs.Placing.{of_four}
 use Rattle.book.proofs.Passing.{passes_clean, clean_passes}
 
@@ -81,14 +82,10 @@ refused-with_none s a =
     let sized = sized_contents s (record { contents = a.contents; few = a.few; sized = a.sized }) in
     simp (eq-eqb _ _ sized) (refused_none 0 a.clean)
 
--- ---- what was read of a book
-module _ {s : List ℕ} {read : Checked} (is : ReadOf s read) where
-  pub read_refusal : read.refusal ≡ refusal_of s
-  unfolding checked_of checked_with
-  read_refusal = ap (λ (checked : Checked). checked.refusal) is.is
-
-  pub read_accepted : read.refusal.number ≡ 0 → Accepted s
-  read_accepted e = accepted s (sym (ap (λ (refusal : Refusal). refusal.number) read_refusal) ∙ e)
+-- a book that the reader accepts is one of the accepted books
+pub accepts_accepted : (s : List ℕ) → accepts s ≡ true → Accepted s
+unfolding accepts
+accepts_accepted s e = accepted s (eqb-true _ _ e)
 
 -- ---- class by class
 CleanRows : List ℕ → ℕ → Type 0

@@ -1,6 +1,6 @@
 -- What the reader gives, of any bytes: its counts, the parts by them, and that no row of a part is refused.
 -- Assumes nothing.
-use mathlib.Core.Path.{◌≡◌, refl, sym, ap, ◌∙◌}
+use mathlib.Core.Path.{◌≡◌, refl, sym, ap, subst, ◌∙◌}
 use mathlib.Core.Bool.{Bool, true, false, cond, ◌&&◌}
 use mathlib.Core.List.{List, []}
 use Prim.Native.Nat.{ℕ, zero, suc, ◌+◌, ◌*◌, ◌≤◌}
@@ -16,74 +16,50 @@ use Rattle.book.specs.Rows.{chunks, rows_in, rows_of, decode}
 use Rattle.book.specs.Legs.{legs_of, of_class}
 use Rattle.book.specs.Refusals.{most_rows, refused, contents_refusal, first_refusal, refusal_of}
 use Rattle.book.specs.Accepted.{Clean}
-use Rattle.book.specs.Inner.Reading.{Checked, no_counts, checked_with, checked_of, part_rows, ReadOf}
-use Rattle.book.specs.Parts.{accepts, part_of, start_by, part_start, part_length}
+use Rattle.book.specs.Inner.Reading.{part_rows, ReadOf}
+use Rattle.std.proofs.Common.{Result, Ok, Err}
+use Rattle.std.specs.Result.{IsErrAnd}
+use Rattle.book.specs.declared.Handed.{Handed as Place}
+use Rattle.book.specs.Reasons.{Refused, numbers_of, told, figure_in}
+use Rattle.book.specs.Parts.{accepts, part_of, start_by, part_start, part_length, handed_of, handed_answer}
+use Rattle.book.proofs.Numbers.{some_told}
 use Rattle.book.proofs.Placing.{none_past, before-within}
 use Rattle.book.proofs.Bodies.{class_count_lem}
 use Rattle.book.proofs.Walking.{class_rows_lem}
-use Rattle.book.proofs.Acceptance.{accepted, class_clean}
+use Rattle.book.proofs.Acceptance.{accepted, accepts_accepted, class_clean}
 
--- no rows, no body
-no_body : (s : List ℕ) (class : ℕ) → body_by no_counts s class ≡ []
-unfolding body_by count_in
-no_body s class = simp (cond_same {A = ℕ})
+-- the refusal of contents that are refused, and of contents that pass
+pub refused_contents : (s : List ℕ) → (contents_refusal s ≡ 0 → ⊥) → refusal_of s ≡ refused (contents_refusal s) 0
+unfolding refusal_of
+refused_contents s bad = simp (ne_eqb _ 0 bad)
 
-module _ (s : List ℕ) where
-  -- the parts by the counts that the reader gives
-  part_by : (class : ℕ) → body_by (checked_of s).counts s class ≡ part_of s class
-  unfolding checked_of checked_with part_of accepts body_of
-  part_by class = go (eqb (refusal_of s).number 0)
-    where
-      go : (out : Bool) → body_by (cond out (counts_of s) no_counts) s class ≡ cond out (body_by (counts_of s) s class) []
-      go true = refl
-      go false = no_body s class
+pub passed_contents : (s : List ℕ) → contents_refusal s ≡ 0 → refusal_of s ≡ first_refusal 0 (legs_of s)
+unfolding refusal_of
+passed_contents s e = simp (eq-eqb _ _ e)
 
-  -- of a book that is not refused, the rows of a part are those of the class
-  part_rows_lem : (refusal_of s).number ≡ 0 → (class : ℕ) → 1 ≤ class → class ≤ 4 → part_rows (part_of s class) ≡ of_class class (legs_of s)
-  unfolding part_of accepts rows_of
-  part_rows_lem e class low high = simp (eq-eqb _ _ e) (sym (class_rows_lem s class low high))
+-- a book that passes is accepted, and one that is refused is not
+pub passed_accepts : (s : List ℕ) → refused 0 0 ≡ refusal_of s → accepts s ≡ true
+unfolding accepts refused
+passed_accepts s e = rw (← e)
 
-  -- of any bytes: the counts are at most 4,000, they are the sizes of the parts, and no row of a part is refused
-  record Sound (counts : Counts) (part : ℕ → List ℕ) : Type 0 where
-    few : count_of_rows counts ≤ most_rows
-    sizes : (class : ℕ) → length (part_rows (part class)) ≡ count_in counts class
-    clean : (class : ℕ) → 1 ≤ class → class ≤ 4 → Every (Clean class) (part_rows (part class))
+pub refused_accepts : (s : List ℕ) (r : Refused) → numbers_of r ≡ refusal_of s → accepts s ≡ false
+unfolding accepts
+refused_accepts s r e = ne_eqb _ 0 (some_told r e)
 
-  sound : (out : Bool) → eqb (refusal_of s).number 0 ≡ out → Sound (cond out (counts_of s) no_counts) (λ class. cond out (body_of s class) [])
-  unfolding rows_of count_of_rows count_in rows_in chunks
-  sound true t =
-      let a = accepted s (eqb-true _ _ t) in
-      record {
-        few = a.few;
-        sizes = λ class. length-map (rows_of s class) decode ∙ class_count_lem s a.sized class;
-        clean = λ class low high. mapped_every decode (λ bytes clean. clean) (class_clean s a class low high);
-      }
-  sound false t = record { few = omega arith; sizes = λ class. sym (simp (cond_same {A = ℕ})); clean = λ class low high. none }
-
-  -- the answer, of contents that are refused and of contents that pass
-  pub refused-checked : (number : ℕ) → number ≡ contents_refusal s → (number ≡ 0 → ⊥) → checked_with (refused number 0) no_counts ≡ checked_of s
-  unfolding checked_of checked_with refusal_of refused
-  refused-checked number is bad = simp (← is, ne_eqb number 0 bad)
-
-  pub passed-checked : contents_refusal s ≡ 0 → checked_with (first_refusal 0 (legs_of s)) (counts_of s) ≡ checked_of s
-  unfolding checked_of refusal_of
-  passed-checked e = simp (eq-eqb _ _ e)
-
-  pub read_of : {r : Checked} → r ≡ checked_of s → ReadOf s r
-  unfolding part_of accepts checked_of checked_with
-  read_of is =
-      let of_parts = sound (eqb (refusal_of s).number 0) refl in
-      let number = ap (λ (r : Checked). r.refusal.number) (sym is) in
-      let counts = ap (λ (r : Checked). r.counts) is in
-      record {
-        is = is;
-        own = λ e. counts ∙ simp (eq-eqb _ _ (number ∙ e));
-        few = rw counts of_parts.few;
-        parts = λ class. ap (λ (r : Checked). body_by r.counts s class) is ∙ part_by class;
-        sizes = λ class. of_parts.sizes class ∙ ap (λ (c : Counts). count_in c class) (sym counts);
-        rows = λ e. part_rows_lem (number ∙ e);
-        clean = of_parts.clean;
-      }
+-- what the reader gives of an accepted book
+pub accepted_reads : (s : List ℕ) → accepts s ≡ true → {counts : Counts} → counts ≡ counts_of s → ReadOf s counts
+unfolding part_of body_of rows_of
+accepted_reads s e {counts} own =
+    let a = accepts_accepted s e in
+    let part : (class : ℕ) → part_of s class ≡ body_of s class = λ class. simp e in
+    record {
+      own = own;
+      few = rw own a.few;
+      parts = λ class. ap (λ (c : Counts). body_by c s class) own ∙ sym (part class);
+      sizes = λ class. ap (λ body. length (part_rows body)) (part class) ∙ length-map (rows_of s class) decode ∙ class_count_lem s a.sized class ∙ ap (λ (c : Counts). count_in c class) (sym own);
+      rows = λ class low high. ap part_rows (part class) ∙ sym (class_rows_lem s class low high);
+      clean = λ class low high. subst (λ body. Every (Clean class) (part_rows body)) (sym (part class)) (mapped_every decode (λ bytes clean. clean) (class_clean s a class low high));
+    }
 
 -- ---- where a part lies
 module _ (counts : Counts) where
@@ -131,3 +107,28 @@ module _ (s : List ℕ) (class : ℕ) where
           ≤ length s
       go true t = omega (arith, (accepted s (eqb-true _ _ t)).sized, start_within (counts_of s) class)
       go false t = omega arith
+
+-- ---- what is handed to a class
+module _ (s : List ℕ) (class : ℕ) where
+  pub part_accepted : accepts s ≡ true → part_of s class ≡ body_of s class
+  unfolding part_of
+  part_accepted e = simp e
+
+  pub part_refused : accepts s ≡ false → part_of s class ≡ []
+  unfolding part_of
+  part_refused e = simp e
+
+  pub handed_refused : (answer : Result Place Refused) (r : Refused) → IsErrAnd answer (λ y. y ≡ r) → numbers_of r ≡ refusal_of s → handed_answer answer ≡ handed_of s class
+  unfolding handed_answer handed_of told figure_in part_start part_length
+  handed_refused (Ok place) r h e = absurd h
+  handed_refused (Err own) r h e =
+      let refusal : numbers_of own ≡ refusal_of s = ap numbers_of h ∙ e in
+      let out = refused_accepts s r e in
+      simp (refusal, out)
+
+  pub handed_accepted : refused 0 0 ≡ refusal_of s → (start length : ℕ) → start ≡ start_by (counts_of s) class → length ≡ row_size * count_in (counts_of s) class
+      → handed_answer (Ok (record { start = start; length = length })) ≡ handed_of s class
+  unfolding handed_answer handed_of told figure_in part_start part_length
+  handed_accepted e start length is_start is_length =
+      let out = passed_accepts s e in
+      simp (out, e, is_start, is_length)

@@ -6,6 +6,7 @@ pub mod Bodies
 pub mod Walking
 pub mod Searching
 pub mod Passing
+pub mod Numbers
 pub mod Terms
 pub mod Acceptance
 pub mod Handing

@@ -5,5 +5,6 @@ pub mod Rows
 pub mod Legs
 pub mod Refusals
 pub mod Accepted
+pub mod Reasons
 pub mod Parts
 pub mod Inner

@@ -1,11 +1,13 @@
 // The contents at the head of a file: four row counts, and whether the file is as long as they say.
-ghost use Rattle.std.specs.Prelude.{◌≡◌, ◌≤◌, length};
+ghost use Rattle.std.specs.Prelude.{◌≡◌, ◌≤◌, length, IfOk};
 ghost use Rattle.book.specs.Counts.{contents_size, counts_of, count_in, rows_before, count_of_rows};
 ghost use Rattle.book.specs.Parts.{start_by};
+ghost use Rattle.book.specs.Reasons.{number_in};
 ghost use Rattle.book.specs.Refusals.{contents_refusal};
 
-use crate::{CONTENTS_SIZE, Counts, MOST_ROWS, ROW_SIZE, fields};
+use crate::{CONTENTS_SIZE, Counts, MOST_ROWS, ROW_SIZE, Reason, fields};
 
+// A class is a number, 1 to 4: the calls and the definitions answer for every number.
 impl Counts {
     // The rows of a class, 1 to 4; no other number has any.
     pub fn class_rows(self, class: usize) -> u16
@@ -24,15 +26,15 @@ impl Counts {
     pub fn rows_before(self, class: usize) -> usize
         ensures { (result ≡ rows_before self class) × (result ≤ 262140) }
     {
-        let to_equity = self.interest as usize;
-        let to_exchange = to_equity + (self.equity as usize);
-        let to_commodity = to_exchange + (self.exchange as usize);
+        let to_equity = usize::from(self.interest);
+        let to_exchange = to_equity + usize::from(self.equity);
+        let to_commodity = to_exchange + usize::from(self.exchange);
         match class {
             0 | 1 => 0,
             2 => to_equity,
             3 => to_exchange,
             4 => to_commodity,
-            _ => to_commodity + (self.commodity as usize),
+            _ => to_commodity + usize::from(self.commodity),
         }
     }
 
@@ -50,10 +52,7 @@ impl Counts {
     pub fn rows(self) -> usize
         ensures { (result ≡ count_of_rows self) × (result ≤ 262140) }
     {
-        (self.interest as usize)
-            + (self.equity as usize)
-            + (self.exchange as usize)
-            + (self.commodity as usize)
+        self.rows_before(5)
     }
 }
 
@@ -69,19 +68,21 @@ pub fn counts(book: &[u8]) -> Counts
     }
 }
 
-// The first of the refusals 1 to 3 that applies to the contents and the length, or 0.
-pub fn contents_refusal(book: &[u8]) -> u8
-    ensures { result ≡ contents_refusal book.now }
+// The counts of a file that is as long as they say, or the first reason, 1 to 3, against it.
+pub fn check(book: &[u8]) -> Result<Counts, Reason>
+    ensures number { number_in result ≡ contents_refusal book.now }
+    ensures counts { IfOk result (λ counts. counts ≡ counts_of book.now) }
 {
     if book.len() < CONTENTS_SIZE {
-        return 1;
+        return Err(Reason::Contents);
     }
-    let rows = counts(book).rows();
+    let counts = counts(book);
+    let rows = counts.rows();
     if MOST_ROWS < rows {
-        return 2;
+        return Err(Reason::Rows);
     }
     if book.len() != CONTENTS_SIZE + ROW_SIZE * rows {
-        return 3;
+        return Err(Reason::Length);
     }
-    0
+    Ok(counts)
 }

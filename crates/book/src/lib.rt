@@ -4,14 +4,18 @@
 pub mod contents;
 pub mod fields;
 pub mod limits;
+mod reasons;
 pub mod rows;
 mod search;
 
-ghost use Rattle.std.specs.Prelude.{◌≡◌, min};
-ghost use Rattle.book.specs.Counts.{body_by};
-ghost use Rattle.book.specs.Refusals.{refused, refusal_of};
-ghost use Rattle.book.specs.Inner.Reading.{no_counts, checked_with, ReadOf};
-ghost use Rattle.book.specs.Parts.{part_of, handed_of};
+ghost use Rattle.std.specs.Prelude.{◌≡◌, true, IfOk};
+ghost use Rattle.book.specs.Counts.{counts_of, body_by, body_of};
+ghost use Rattle.book.specs.Reasons.{told};
+ghost use Rattle.book.specs.Refusals.{refusal_of};
+ghost use Rattle.book.specs.Inner.Reading.{ReadOf};
+ghost use Rattle.book.specs.Parts.{accepts, part_of, handed_of, handed_answer};
+
+pub use reasons::{Reason, Refused, told};
 
 // The bytes of the contents, and of a row; the most rows of a book; the last group of a class.
 pub const CONTENTS_SIZE: usize = 8;
@@ -22,8 +26,8 @@ pub const MOST_ROWS: usize = 4000;
 
 pub const LAST_GROUP: u8 = 31;
 
-// One leg: 16 bytes of the file.
-#[derive(Clone, Copy)]
+// One leg: 16 bytes of the file. Group and kind are numbers, which the checks of a row refuse.
+#[derive(Clone, Copy, Debug, Default, PartialEq, Eq)]
 pub struct Row {
     pub group: u8,
     pub kind: u8,
@@ -34,8 +38,9 @@ pub struct Row {
     pub short: u32,
 }
 
-// Why a book is refused, at which row of the file, and in join of which book; all zero where it is accepted.
-#[derive(Clone, Copy)]
+// What an answer tells of its refusal, in numbers: why, at which row of the file, and in join of
+// which book; all zero where there is none. Numbers, since C and the report have them so.
+#[derive(Clone, Copy, Debug, Default, PartialEq, Eq)]
 pub struct Refusal {
     pub number: u8,
     pub row: u16,
@@ -43,7 +48,7 @@ pub struct Refusal {
 }
 
 // The contents: the rows of each class.
-#[derive(Clone, Copy)]
+#[derive(Clone, Copy, Debug, Default, PartialEq, Eq)]
 pub struct Counts {
     pub interest: u16,
     pub equity: u16,
@@ -51,75 +56,50 @@ pub struct Counts {
     pub commodity: u16,
 }
 
-// A book that was checked: its refusal, and its counts; no rows where it is refused.
+// An accepted book: its bytes, and the counts that they hold.
 #[derive(Clone, Copy)]
-pub struct Checked {
-    pub refusal: Refusal,
+pub struct Book<'a> {
+    pub bytes: &'a [u8],
     pub counts: Counts,
+    ghost accepted: { accepts bytes.now ≡ true },
+    ghost own: { counts ≡ counts_of bytes.now },
 }
 
-// Where the part of a class lies in a book; both 0 where it is refused or the number is no class.
-#[derive(Clone, Copy)]
+// Where the part of a class lies in a book; both 0 where the number is no class.
+#[derive(Clone, Copy, Debug, PartialEq, Eq)]
 pub struct Handed {
-    pub refusal: Refusal,
     pub start: usize,
     pub length: usize,
 }
 
-// A refusal outside join, at a row; all zero for one that is accepted.
-pub fn refused(number: u8, row: u16) -> Refusal
-    ensures { result ≡ refused number row }
+// Whether a book is accepted, or the first reason against it: 1, 2, 3, then its rows in file order.
+pub fn check(book: &[u8]) -> Result<(), Refused>
+    ensures { told result ≡ refusal_of book.now }
 {
-    Refusal {
-        number,
-        row,
-        book: 0,
-    }
+    read(book)?;
+    Ok(())
 }
 
-// The refusal of a book: 1, 2, 3, then its rows in file order.
-pub fn check(book: &[u8]) -> Refusal
-    ensures { result ≡ refusal_of book.now }
+// A book that is accepted, or the first reason against it.
+pub fn read(book: &[u8]) -> Result<Book<'_>, Refused>
+    ensures refusal { told result ≡ refusal_of book.now }
+    ensures bytes { IfOk result (λ read. read.bytes.now ≡ book.now) }
+    ensures parts { IfOk result (λ read. ReadOf book.now read.counts) }
 {
-    let checked = read(book);
-    checked.refusal
+    let counts = contents::check(book)?;
+    search::first_refused(book, counts)?;
+    Ok(Book {
+        bytes: book,
+        counts,
+    })
 }
 
-// The refusal of a book, and the rows of each class; no rows where it is refused.
-pub fn read(book: &[u8]) -> Checked
-    ensures { ReadOf book.now result }
-{
-    let number = contents::contents_refusal(book);
-    if number != 0 {
-        return checked_with(refused(number, 0), no_counts());
-    }
-    let counts = contents::counts(book);
-    checked_with(search::first_refused(book, counts), counts)
-}
-
-// No rows in any class.
-pub fn no_counts() -> Counts
-    ensures { result ≡ no_counts }
-{
-    Counts {
-        interest: 0,
-        equity: 0,
-        exchange: 0,
-        commodity: 0,
-    }
-}
-
-// A refusal with the counts that go with it: none where its number is not 0.
-pub fn checked_with(refusal: Refusal, counts: Counts) -> Checked
-    ensures { result ≡ checked_with refusal counts }
-{
-    if refusal.number == 0 {
-        Checked { refusal, counts }
-    } else {
-        Checked {
-            refusal,
-            counts: no_counts(),
-        }
+impl<'a> Book<'a> {
+    // The rows of a class, 1 to 4, as a part of the book; no other number has any.
+    pub fn body(self, class: usize) -> &'a [u8]
+        ensures { result.now ≡ body_of self.entry.bytes.now class }
+    {
+        body(self.bytes, self.counts, class)
     }
 }
 
@@ -129,45 +109,27 @@ pub fn body(book: &[u8], counts: Counts, class: usize) -> &[u8]
     ensures { result.now ≡ body_by counts book.now class }
 {
     let first = CONTENTS_SIZE + ROW_SIZE * counts.rows_before(class);
-    let past = first + ROW_SIZE * (counts.class_rows(class) as usize);
-    let start = least(first, book.len());
-    let end = least(past, book.len());
-    &book[start..end]
-}
-
-fn least(a: usize, b: usize) -> usize
-    ensures { result ≡ min a b }
-{
-    if a < b { a } else { b }
+    let past = first + ROW_SIZE * usize::from(counts.class_rows(class));
+    &book[first.min(book.len())..past.min(book.len())]
 }
 
 // Where the rows of a class, 1 to 4, lie in the book.
-pub fn hand(book: &[u8], class: usize) -> Handed
-    ensures { result ≡ handed_of book.now class }
+pub fn hand(book: &[u8], class: usize) -> Result<Handed, Refused>
+    ensures { handed_answer result ≡ handed_of book.now class }
 {
-    let checked = read(book);
-    let refusal = checked.refusal;
-    if refusal.number != 0 {
-        return Handed {
-            refusal,
-            start: 0,
-            length: 0,
-        };
-    }
-    let counts = checked.counts;
-    Handed {
-        refusal,
+    let counts = read(book)?.counts;
+    Ok(Handed {
         start: counts.start(class),
-        length: ROW_SIZE * (counts.class_rows(class) as usize),
-    }
+        length: ROW_SIZE * usize::from(counts.class_rows(class)),
+    })
 }
 
 // The rows of a class, 1 to 4, as a part of the book; of a refused book nothing.
 pub fn part(book: &[u8], class: usize) -> &[u8]
     ensures { result.now ≡ part_of book.now class }
 {
-    let handed = hand(book, class);
-    let start = handed.start;
-    let end = start + handed.length;
-    &book[start..end]
+    match read(book) {
+        Ok(book) => book.body(class),
+        Err(_) => &[],
+    }
 }

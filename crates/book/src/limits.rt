@@ -1,8 +1,9 @@
-// What the fields of a row may hold, by its class.
+// What the fields of a row may hold, by its class: a number, and the tests answer for every number.
 ghost use Rattle.std.specs.Prelude.{◌≡◌, cond, ◌||◌, ltb};
+ghost use Rattle.book.specs.Reasons.{number_in};
 ghost use Rattle.book.specs.Refusals.{least_kind, most_kind, most_days, most_coupon, floating, group_refusal, terms_refusal, amounts_refusal, row_refusal};
 
-use crate::{LAST_GROUP, Row};
+use crate::{LAST_GROUP, Reason, Row};
 
 const MOST_DAYS: u16 = 36000;
 
@@ -38,17 +39,17 @@ pub fn wrong_kind(class: usize, kind: u8) -> bool
     kind < least_kind(class) || most_kind(class) < kind
 }
 
-// 4 or 5, by the group and the kind of a row of a class, or 0.
-pub fn group_refusal(class: usize, row: Row) -> u8
-    ensures { result ≡ group_refusal class row }
+// 4 or 5, by the group and the kind of a row of a class.
+pub fn check_group(class: usize, row: Row) -> Result<(), Reason>
+    ensures { number_in result ≡ group_refusal class row }
 {
     if LAST_GROUP < row.group {
-        return 4;
+        return Err(Reason::Group);
     }
     if wrong_kind(class, row.kind) {
-        return 5;
+        return Err(Reason::Kind);
     }
-    0
+    Ok(())
 }
 
 pub fn most_days(class: usize) -> u16
@@ -76,64 +77,52 @@ pub fn is_floating(class: usize, kind: u8) -> bool
     class == 1 && kind == 4
 }
 
-// One of two numbers, by a test.
-fn either(test: bool, one: u16, other: u16) -> u16
+// One of two, by a test.
+fn either<T: Copy>(test: bool, one: T, other: T) -> T
     ensures { result ≡ cond test one other }
 {
     if test { one } else { other }
 }
 
-// 15 for a floating-rate note, for another row its own number.
-fn number(note: bool, plain: u8) -> u8
-    ensures { result ≡ cond note 15 plain }
-{
-    if note { 15 } else { plain }
-}
-
-// 6 or 7, by the days and the coupon of a row of a class, or 0; of a floating-rate note 15 in their place, by its days to fixing and to final
-// maturity. The limits are chosen first, and the same three tests follow for every row.
-pub fn terms_refusal(class: usize, row: Row) -> u8
-    ensures { result ≡ terms_refusal class row }
+// 6 or 7, by the days and the coupon of a row of a class; of a floating-rate note 15 in their
+// place, by its days to fixing and to final maturity. The limits are chosen first, and the same
+// three tests follow for every row.
+pub fn check_terms(class: usize, row: Row) -> Result<(), Reason>
+    ensures { number_in result ≡ terms_refusal class row }
 {
     let note = is_floating(class, row.kind);
     if either(note, MOST_FIXING, most_days(class)) < row.days {
-        return number(note, 6);
+        return Err(either(note, Reason::Note, Reason::Days));
     }
     if either(note, MOST_DAYS, most_coupon(class)) < row.coupon {
-        return number(note, 7);
+        return Err(either(note, Reason::Note, Reason::Coupon));
     }
     if row.coupon < either(note, row.days, 0) {
-        return 15;
+        return Err(Reason::Note);
     }
-    0
+    Ok(())
 }
 
-// 8 or 9, by the amounts of a row, or 0; past 8 one of them is zero, so that their sum is the other.
-pub fn amounts_refusal(row: Row) -> u8
-    ensures { result ≡ amounts_refusal row }
+// 8 or 9, by the amounts of a row; past 8 one of them is zero, so that their sum is the other.
+pub fn check_amounts(row: Row) -> Result<(), Reason>
+    ensures { number_in result ≡ amounts_refusal row }
 {
     let long = row.long;
     let short = row.short;
     if (long == 0) == (short == 0) {
-        return 8;
+        return Err(Reason::Sides);
     }
     if MOST_AMOUNT < long + short {
-        return 9;
+        return Err(Reason::Amount);
     }
-    0
+    Ok(())
 }
 
-// The first of the refusals 4 to 9, or 15, that applies to a row of a class, or 0.
-pub fn row_refusal(class: usize, row: Row) -> u8
-    ensures { result ≡ row_refusal class row }
+// The first of the reasons 4 to 9, or 15, against a row of a class.
+pub fn check_row(class: usize, row: Row) -> Result<(), Reason>
+    ensures { number_in result ≡ row_refusal class row }
 {
-    let of_group = group_refusal(class, row);
-    if of_group != 0 {
-        return of_group;
-    }
-    let of_terms = terms_refusal(class, row);
-    if of_terms != 0 {
-        return of_terms;
-    }
-    amounts_refusal(row)
+    check_group(class, row)?;
+    check_terms(class, row)?;
+    check_amounts(row)
 }

@@ -36,14 +36,6 @@ pub fn row_at(part: &[u8], i: usize) -> Row
     if i < part.len() / ROW_SIZE {
         row_from(part, ROW_SIZE * i)
     } else {
-        Row {
-            group: 0,
-            kind: 0,
-            days: 0,
-            coupon: 0,
-            issue: 0,
-            long: 0,
-            short: 0,
-        }
+        Row::default()
     }
 }

@@ -13,6 +13,8 @@ use text::MOST_TEXT;
 const MOST_BYTES: usize = 64009;
 
 // Reads until buf is full or the input ends: how many bytes went to the front of buf.
+// A loop, since `read_exact` does not say how many bytes there were where the input ends; and the
+// same as in `vectors`, since a crate for one function would be no plainer.
 fn read_full(from: &mut impl Read, buf: &mut [u8]) -> io::Result<usize>
     ensures { ReadsAtMost result buf.new }
 {

@@ -8,10 +8,11 @@ use native.Mathlib.Omega.{arith}
 use mir.Val.{bool_byte}
 use lib.ListN.{length, get_or, replicate}
 use lib.Dec.{ltb, leb}
-use borrow.Author.Tests.{ltb-true, lt-ltb, le-ltb, leb-true}
+use borrow.Author.Tests.{ltb-true, ltb-false, lt-ltb, le-ltb, leb-true}
 use Rattle.sums.proofs.Cases.{both}
 use Rattle.charges.specs.Bands.{first_band}
-use Rattle.charges.specs.Inner.Columns.{ascending, largest}
+use Rattle.charges.specs.Inner.Columns.{ascending, column_size, largest, column_from}
+use Rattle.charges.proofs.Arrays.{part_reads, part_sized}
 
 -- ---- one entry
 -- past all entries it is the band after them
@@ -77,6 +78,73 @@ three_told apart place band false true true low high p q r = omega (arith, p.by 
 three_told apart place band false true false low high p q r = omega (arith, p.by refl, q.past refl)
 three_told apart place band false false true low high p q r = omega (arith, p.by refl, r.past refl)
 three_told apart place band false false false low high p q r = omega (arith, p.by refl)
+
+-- ---- the first band of a column that stands in a list from a place on: three tests give the
+-- quarter, and three the place in it
+module _ (all : List ℕ) (first days : ℕ) (within : first + column_size ≤ length all)
+    (up : ascending (column_from first all) ≡ true) (most : days ≤ get_or all (first + 15) 0) where
+  abbrev test : ℕ → Bool
+  test j = ltb (get_or all j 0) days
+
+  abbrev band : ℕ
+  band = first_band days (column_from first all)
+
+  abbrev quarter : ℕ
+  quarter =
+      bool_byte (test (first + 3)) + bool_byte (test (first + 7)) + bool_byte (test (first + 11))
+
+  -- an entry of the column, by its place in the list
+  entry : (i : ℕ) → i < column_size → get_or (column_from first all) i 0 ≡ get_or all (first + i) 0
+  entry i h = (part_reads first column_size all).below i h
+
+  sized : length (column_from first all) ≡ column_size
+  sized = part_sized first column_size all within
+
+  told : (j i : ℕ) → j ≡ first + i → i < column_size → Told band i (test j)
+  told j i e h =
+      rw e
+      (record {
+        past = λ t. first_past _ _ up i (rw sized h) (rw (entry i h) (ltb-true _ _ t));
+        by = λ t. first_by _ _ i (rw (entry i h) (ltb-false _ _ t));
+      })
+
+  few : quarter ≤ 3
+  few =
+      omega (
+        arith,
+        counts_once (test (first + 3)),
+        counts_once (test (first + 7)),
+        counts_once (test (first + 11)),
+      )
+
+  -- the first place of the quarter
+  abbrev at : ℕ
+  at = first + 4 * quarter
+
+  in_quarter : (4 * quarter ≤ band) × (band ≤ 4 * quarter + 3)
+  in_quarter =
+      let last = first_by days (column_from first all) 15 (rw (entry 15 (omega arith)) most) in
+      omega (
+        arith,
+        few,
+        three_told 4 3 band (test (first + 3)) (test (first + 7)) (test (first + 11)) (omega arith)
+            (omega (arith, last))
+            (told _ 3 refl (omega arith))
+            (told _ 7 refl (omega arith))
+            (told _ 11 refl (omega arith)),
+      )
+
+  pub in_two_steps :
+      4 * quarter + bool_byte (test at) + bool_byte (test (at + 1)) + bool_byte (test (at + 2)) ≡ band
+  in_two_steps =
+      omega (
+        arith,
+        three_told 1 (4 * quarter) band (test at) (test (at + 1)) (test (at + 2))
+            (omega (arith, in_quarter)) (omega (arith, in_quarter))
+            (told _ (4 * quarter) refl (omega (arith, few)))
+            (told _ (4 * quarter + 1) (omega arith) (omega (arith, few)))
+            (told _ (4 * quarter + 2) (omega arith) (omega (arith, few))),
+      )
 
 -- ---- filled up with the largest number of two bytes
 pub first-filled : (days : ℕ) → days ≤ largest → (column : List ℕ) (more : ℕ) → first_band days (column ++ replicate more largest) ≡ first_band days column

@@ -19,6 +19,7 @@ use Rattle.book.specs.Accepted.{Accepted}
 use Rattle.book.proofs.Acceptance.{class_clean, legs_every}
 use Rattle.book.proofs.Placing.{before-within}
 use Rattle.book.proofs.ClassRows.{class_size, rows_clean}
+use Rattle.ladder.specs.declared.positions.Position.{Position}
 use Rattle.ladder.specs.Position.{Bands, gross, total}
 use Rattle.ladder.specs.declared.Table.{Table}
 use Rattle.ladder.specs.Interest.{interest_figures}
@@ -27,14 +28,14 @@ use Rattle.ladder.specs.Nets.{absolute_nets, shorthand, simplified}
 use Rattle.ladder.specs.Rows.{in_group, ladder_of, groups_of}
 use Rattle.ladder.specs.Inner.Steps.{band_count}
 use Rattle.ladder.proofs.Matching.{same_position}
-use Rattle.ladder.proofs.Totals.{total-sides}
+use Rattle.ladder.proofs.Arrays.{sized_by}
 use Rattle.ladder.proofs.Agreeing.{Agree, total-agree, gross-agree, absolutes_agree, shorthand-agree, simplified-agree}
 use Rattle.ladder.proofs.Bounds.{positions_by_within, positions_by_all, ladders_within}
 use Rattle.charges.specs.Bands.{band_in}
 use Rattle.charges.specs.Charges.{eight_per_cent, groups, currencies, reading, specific_of, specific_charge}
 use Rattle.charges.specs.Charges.{interest_general, equity_general, exchange_general, commodity_general, simplified_commodity, by_currency}
 use Rattle.charges.specs.Report.{class_rows}
-use Rattle.charges.specs.Inner.Slots.{group_count, equity_first, exchange_first, slot_count, slot_at, leg_slot, leg_long, leg_short, leg_counted, LegSums}
+use Rattle.charges.specs.Inner.Slots.{group_count, equity_first, exchange_first, slot_count, slot_at, leg_slot, leg_long, leg_counted, LegSums}
 use Rattle.charges.specs.Inner.Tables.{most_gross, bands_from, gross_from, weighted_from, currency_at, commodity_at, commodity_groups}
 use Rattle.charges.proofs.Legs.{amounts, amounts_within}
 use Rattle.charges.proofs.Rates.{groups-rate}
@@ -79,47 +80,45 @@ flat-sum : (class : ℕ) → ((row : Row) → band_in class row ≡ 0) → (amou
     → sum_at (band_in class) (in_group (reading class) g amount) 0 rows ≡ sum_at (λ row. row.group) amount g rows
 flat-sum class flat amount g rows = ap (λ (f : Row → ℕ). sum_of f rows) (fun_ext (λ row. simp (flat row)))
 
-pub record Costs (s longs shorts specifics rows : List ℕ) : Type 0 where
-  pub longs_sized : length longs ≡ slot_count
-  pub shorts_sized : length shorts ≡ slot_count
-  pub interest_fits : sum_of (λ g. gross_from band_count longs shorts (currency_at g)) groups ≤ most_gross
-  pub currency-unused : (g : ℕ) → g < group_count → get_or rows (0 + g) 0 ≡ 0 → gross_from band_count longs shorts (currency_at g) ≡ 0
-  pub commodity-fits : sum_of (λ g. gross_from commodity_band_count longs shorts (commodity_at g)) groups ≤ most_gross
-  pub commodity-unused : (g : ℕ) → g < group_count → get_or rows (96 + g) 0 ≡ 0 → gross_from commodity_band_count longs shorts (commodity_at g) ≡ 0
-  pub equity-fits : gross_from group_count longs shorts equity_first ≤ most_gross
-  pub exchange_fits : gross_from group_count longs shorts exchange_first ≤ most_gross
+pub record Costs (s : List ℕ) (positions : List Position) (specifics rows : List ℕ) : Type 0 where
+  pub sized : length positions ≡ slot_count
+  pub interest_fits : sum_of (λ g. gross_from band_count positions (currency_at g)) groups ≤ most_gross
+  pub currency-unused : (g : ℕ) → g < group_count → get_or rows (0 + g) 0 ≡ 0 → gross_from band_count positions (currency_at g) ≡ 0
+  pub commodity-fits : sum_of (λ g. gross_from commodity_band_count positions (commodity_at g)) groups ≤ most_gross
+  pub commodity-unused : (g : ℕ) → g < group_count → get_or rows (96 + g) 0 ≡ 0 → gross_from commodity_band_count positions (commodity_at g) ≡ 0
+  pub equity-fits : gross_from group_count positions equity_first ≤ most_gross
+  pub exchange_fits : gross_from group_count positions exchange_first ≤ most_gross
   pub specifics_are : map (λ g. get_or specifics (0 + g) 0) groups ≡ by_currency (specific_charge 1) (class_rows s 1)
-  pub commodity-is : sum_of (λ g. (commodity_figures (bands_from longs shorts (commodity_at g))).charge) groups ≡ commodity_general (class_rows s 4)
-  pub equity-is : eight_per_cent * absolute_nets groups (bands_from longs shorts equity_first) ≡ equity_general (class_rows s 2)
-  pub exchange_is : eight_per_cent * shorthand currencies (bands_from longs shorts exchange_first) ≡ exchange_general (class_rows s 3)
-  pub groups-fit : gross (total (commodity_groups longs shorts) groups) ≤ most_gross
-  pub simplified-is : simplified groups (commodity_groups longs shorts) ≡ simplified_commodity (class_rows s 4)
+  pub commodity-is : sum_of (λ g. (commodity_figures (bands_from positions (commodity_at g))).charge) groups ≡ commodity_general (class_rows s 4)
+  pub equity-is : eight_per_cent * absolute_nets groups (bands_from positions equity_first) ≡ equity_general (class_rows s 2)
+  pub exchange_is : eight_per_cent * shorthand currencies (bands_from positions exchange_first) ≡ exchange_general (class_rows s 3)
+  pub groups-fit : gross (total (commodity_groups positions) groups) ≤ most_gross
+  pub simplified-is : simplified groups (commodity_groups positions) ≡ simplified_commodity (class_rows s 4)
   pub equity-specific_is : sum_of (λ entry. entry) (map (λ g. get_or specifics (32 + g) 0) groups) ≡ specific_charge 2 (class_rows s 2)
 
-module _ (s longs shorts specifics rows : List ℕ) (ok : Accepted s) (sums : LegSums (legs_of s) longs shorts specifics rows) where
-  at : (class g : ℕ) → 1 ≤ class → class ≤ 4 → g < group_count → Holds (legs_of s) class g longs shorts specifics rows
-  at class g low high h = holds (legs_of s) (legs_placed s ok) class g low high (omega arith) longs shorts specifics rows sums
+module _ (s : List ℕ) (positions : List Position) (specifics rows : List ℕ) (ok : Accepted s) (sums : LegSums (legs_of s) positions specifics rows) where
+  at : (class g : ℕ) → 1 ≤ class → class ≤ 4 → g < group_count → Holds (legs_of s) class g positions specifics rows
+  at class g low high h = holds (legs_of s) (legs_placed s ok) class g low high (omega arith) positions specifics rows sums
 
-  currency-agree : (g : ℕ) → g < group_count → Agree band_count (bands_from longs shorts (currency_at g)) (ladder_of (reading 1) g (class_rows s 1))
+  currency-agree : (g : ℕ) → g < group_count → Agree band_count (bands_from positions (currency_at g)) (ladder_of (reading 1) g (class_rows s 1))
   unfolding slot_at bands_in
   currency-agree g h = let held = at 1 g (omega arith) (omega arith) h in record { below = λ k h'. same_position (held.long k h') (held.short k h') }
 
-  commodity-agrees : (g : ℕ) → g < group_count → Agree commodity_band_count (bands_from longs shorts (commodity_at g)) (ladder_of (reading 4) g (class_rows s 4))
+  commodity-agrees : (g : ℕ) → g < group_count → Agree commodity_band_count (bands_from positions (commodity_at g)) (ladder_of (reading 4) g (class_rows s 4))
   unfolding slot_at bands_in
   commodity-agrees g h = let held = at 4 g (omega arith) (omega arith) h in record { below = λ k h'. same_position (held.long k h') (held.short k h') }
 
   -- a commodity's bands together are its position
-  simplified-agrees : Agree group_count (commodity_groups longs shorts) (groups_of (reading 4) (class_rows s 4))
+  simplified-agrees : Agree group_count (commodity_groups positions) (groups_of (reading 4) (class_rows s 4))
   unfolding band_in
   simplified-agrees =
       record {
         below = λ g h.
-            sym (total-sides (bands_from longs shorts (commodity_at g)) (span 0 commodity_band_count))
-            ∙ total-agree (commodity-agrees g h) (λ a. a) 0 commodity_band_count (omega arith)
+            total-agree (commodity-agrees g h) (λ a. a) 0 commodity_band_count (omega arith)
             ∙ positions_by_all (band_in 4) _ _ commodity_band_count (every_all commodity-below (class_rows s 4));
       }
 
-  equity-agree : Agree group_count (bands_from longs shorts equity_first) (groups_of (reading 2) (class_rows s 2))
+  equity-agree : Agree group_count (bands_from positions equity_first) (groups_of (reading 2) (class_rows s 2))
   unfolding slot_at bands_in band_in
   equity-agree =
       record {
@@ -128,7 +127,7 @@ module _ (s longs shorts specifics rows : List ℕ) (ok : Accepted s) (sums : Le
             same_position (held.long 0 (omega arith) ∙ flat-sum 2 (λ row. refl) (λ row. row.long) g _) (held.short 0 (omega arith) ∙ flat-sum 2 (λ row. refl) (λ row. row.short) g _);
       }
 
-  exchange_agree : Agree group_count (bands_from longs shorts exchange_first) (groups_of (reading 3) (class_rows s 3))
+  exchange_agree : Agree group_count (bands_from positions exchange_first) (groups_of (reading 3) (class_rows s 3))
   unfolding slot_at bands_in band_in
   exchange_agree =
       record {
@@ -139,20 +138,19 @@ module _ (s longs shorts specifics rows : List ℕ) (ok : Accepted s) (sums : Le
 
   -- the charge of each currency's ladder, by a table
   pub generals_are : (table : Table)
-      → map (λ g. (interest_figures table.percents (weighted_from table longs shorts (currency_at g))).charge) groups ≡ by_currency (interest_general table) (class_rows s 1)
+      → map (λ g. (interest_figures table.percents (weighted_from table positions (currency_at g))).charge) groups ≡ by_currency (interest_general table) (class_rows s 1)
   unfolding by_currency
   generals_are table =
       listed_same _ _ group_count
       (λ g h.
-      ap (λ figures. figures.charge) (interest_from longs shorts (currency_at g) g (class_rows s 1) table (currency-agree g h))
+      ap (λ figures. figures.charge) (interest_from positions (currency_at g) g (class_rows s 1) table (currency-agree g h))
       ∙ sym (alone_general table g (class_rows s 1) h))
 
-  pub costs : Costs s longs shorts specifics rows
+  pub costs : Costs s positions specifics rows
   unfolding specific_charge commodity_general simplified_commodity equity_general exchange_general leg_counted by_currency
   costs =
       record {
-        longs_sized = rw sums.is_longs (length_tally leg_slot leg_long (replicate slot_count 0) (legs_of s) ∙ length-replicate {A = ℕ} slot_count 0);
-        shorts_sized = rw sums.is_shorts (length_tally leg_slot leg_short (replicate slot_count 0) (legs_of s) ∙ length-replicate {A = ℕ} slot_count 0);
+        sized = sized_by positions sums.is_longs (length_tally leg_slot leg_long (replicate slot_count 0) (legs_of s) ∙ length-replicate {A = ℕ} slot_count 0);
         interest_fits = omega (arith, ladders_fit 1 band_count (class_rows s 1) _ currency-agree, amounts_most s ok 1 (omega arith) (omega arith));
         currency-unused = λ g h none. unused_none 1 band_count (class_rows s 1) _ currency-agree g h
             (none_counted 1 g (class_rows s 1) (λ row. refl) (sym (at 1 g (omega arith) (omega arith) h).counted ∙ none));
@@ -162,7 +160,7 @@ module _ (s longs shorts specifics rows : List ℕ) (ok : Accepted s) (sums : Le
         equity-fits = omega (arith, gross-agree equity-agree, groups-rate 2 (class_rows s 2), amounts_most s ok 2 (omega arith) (omega arith));
         exchange_fits = omega (arith, gross-agree exchange_agree, groups-rate 3 (class_rows s 3), amounts_most s ok 3 (omega arith) (omega arith));
         specifics_are = listed_same _ _ group_count (λ g h. (at 1 g (omega arith) (omega arith) h).specific ∙ sym (alone_specific g (class_rows s 1)));
-        commodity-is = sum_same _ _ group_count (λ g h. ap (λ figures. figures.charge) (commodity-from longs shorts (commodity_at g) g (class_rows s 4) (commodity-agrees g h)));
+        commodity-is = sum_same _ _ group_count (λ g h. ap (λ figures. figures.charge) (commodity-from positions (commodity_at g) g (class_rows s 4) (commodity-agrees g h)));
         equity-is = ap (λ (n : ℕ). eight_per_cent * n) (absolutes_agree equity-agree);
         groups-fit = omega (arith, gross-agree simplified-agrees, groups-rate 4 (class_rows s 4), amounts_most s ok 4 (omega arith) (omega arith));
         simplified-is = simplified-agree simplified-agrees;

@@ -2,7 +2,7 @@
 pub mod Arrays
 pub mod Columns
 pub mod Legs
-pub mod Fronts
+pub mod Made
 pub mod Listing
 pub mod Places
 pub mod Progress

@@ -1,6 +1,6 @@
 -- Groups that are listed where they are counted: what a list of them sums to, and a table of their costs.
 -- Assumes nothing.
-use mathlib.Core.Path.{◌≡◌, refl, ap, ◌∙◌}
+use mathlib.Core.Path.{◌≡◌, refl, sym, ap, ◌∙◌}
 use mathlib.Core.Bool.{Bool, true, false, cond, not}
 use mathlib.Core.List.{List, [], ◌∷◌, ◌++◌, map, append-nil}
 use Prim.Native.Nat.{ℕ, zero, suc, ◌+◌, ◌*◌, ◌≤◌, ◌<◌}
@@ -9,23 +9,21 @@ use native.Mathlib.Nat.{zero-add, add-zero, mul-zero, mul-le-mul_left}
 use native.Mathlib.Numerals.{add-one}
 use native.Mathlib.Omega.{arith}
 use mir.Val.{bool_byte}
-use borrow.Author.Tests.{eqb-true, eq-eqb, ne_eqb}
+use borrow.Author.Tests.{eq-eqb, ne_eqb}
 use lib.Dec.{eqb}
-use lib.ListN.{length, take, get_or, set, replicate, length-set, length-replicate}
-use lib.Seq.{take-set-le, take-suc-set, get_or-take, length-take-le}
+use lib.ListN.{length, take, get_or, set, replicate, length-set, get_or-replicate}
+use lib.Seq.{take-set-le, take-suc-set}
+use Rattle.std.proofs.Common.{get_or-set_same, get_or-set_other}
 use Rattle.sums.specs.Sums.{sum_of, span}
 use Rattle.sums.specs.Every.{Every, none, also}
-use Rattle.sums.specs.Inner.Tables.{tally}
+use Rattle.sums.specs.Inner.Tables.{Reads}
 use Rattle.sums.proofs.Sums.{sum_of_rate}
-use Rattle.sums.proofs.Cases.{cond_same}
-use Rattle.sums.proofs.Spans.{span_last, sum_at_lem, Rated}
-use Rattle.sums.proofs.Tables.{length_tally, tallied}
-use Rattle.sums.proofs.Every.{every_implied, every_at}
-use Rattle.sums.proofs.Filling.{listed_array}
+use Rattle.sums.proofs.Spans.{span_last, sum_same, Rated}
+use Rattle.sums.proofs.Every.{every_split, every_append, every_implied, every_at}
+use Rattle.sums.proofs.Filling.{listed_array, entries_sum}
 use Rattle.charges.specs.Charges.{groups}
 use Rattle.charges.specs.Inner.Slots.{group_count}
-use Rattle.charges.specs.Inner.Tables.{Used, counted_groups, UsedOf}
-use Rattle.charges.proofs.Fronts.{FrontTable}
+use Rattle.charges.specs.Inner.Tables.{counted_groups, UsedOf}
 
 -- ---- the counted groups of a list
 module _ (count : ℕ → ℕ) where
@@ -40,25 +38,52 @@ module _ (count : ℕ → ℕ) where
       go true later = later
       go false later = ap (λ (l : List ℕ). group ∷ l) later
 
-  counted_every : {P : ℕ → Type 0} {list : List ℕ} → Every P list → Every P (counted_groups count list)
+  -- what holds of each that is counted, and that it is counted
+  pub counted_every : {P : ℕ → Type 0} {list : List ℕ} → Every P list
+      → Every (λ g. P g × (count g ≡ 0 → ⊥)) (counted_groups count list)
   unfolding counted_groups
   counted_every none = none
-  counted_every {P} (also {a} {rest} p later) = go (eqb (count a) 0) (counted_every later)
+  counted_every {P} (also {a} {rest} p later) = go (ℕ_discrete (count a) 0) (counted_every later)
     where
-      go : (test : Bool) → Every P (counted_groups count rest) → Every P (cond test (counted_groups count rest) (a ∷ counted_groups count rest))
-      go true e = e
-      go false e = also p e
+      go : Dec (count a ≡ 0) → Every (λ g. P g × (count g ≡ 0 → ⊥)) (counted_groups count rest)
+          → Every (λ g. P g × (count g ≡ 0 → ⊥))
+          (cond (eqb (count a) 0) (counted_groups count rest) (a ∷ counted_groups count rest))
+      go (yes e) every = rw (eq-eqb (count a) 0 e) every
+      go (no e) every = rw (ne_eqb (count a) 0 e) (also (p, e) every)
 
-  -- what costs nothing where none is counted sums over them as over all
-  counted_sum : (cost : ℕ → ℕ) {list : List ℕ} → Every (λ g. count g ≡ 0 → cost g ≡ 0) list → sum_of cost (counted_groups count list) ≡ sum_of cost list
-  unfolding counted_groups sum_of
-  counted_sum cost none = refl
-  counted_sum cost (also {a} {rest} free later) = go (eqb (count a) 0) refl (counted_sum cost later)
+  -- and the other way
+  pub every_counted : {P : ℕ → Type 0} (list : List ℕ) → Every P (counted_groups count list)
+      → Every (λ g. (count g ≡ 0 → ⊥) → P g) list
+  unfolding counted_groups
+  every_counted [] every = none
+  every_counted {P} (a ∷ rest) every = go (ℕ_discrete (count a) 0) every (every_counted rest)
     where
-      go : (test : Bool) → eqb (count a) 0 ≡ test → sum_of cost (counted_groups count rest) ≡ sum_of cost rest
-          → sum_of cost (cond test (counted_groups count rest) (a ∷ counted_groups count rest)) ≡ cost a + sum_of cost rest
-      go true t e = omega (arith, free (eqb-true (count a) 0 t))
-      go false t e = omega arith
+      go : Dec (count a ≡ 0)
+          → Every P
+          (cond (eqb (count a) 0) (counted_groups count rest) (a ∷ counted_groups count rest))
+          → (Every P (counted_groups count rest) → Every (λ g. (count g ≡ 0 → ⊥) → P g) rest)
+          → Every (λ g. (count g ≡ 0 → ⊥) → P g) (a ∷ rest)
+      go (yes e) every later =
+          let test = eq-eqb (count a) 0 e in
+          also (λ some. absurd (some e)) (later (rw test at every))
+      go (no e) every later =
+          let test = ne_eqb (count a) 0 e in
+          let parts = every_split (a ∷ []) (counted_groups count rest) (rw test at every) in
+          also (λ some. every_at parts.0 0 0 (omega arith)) (later parts.1)
+
+-- what holds of the numbers of a span
+every_in : {P : ℕ → Type 0} (start many : ℕ) → Every P (span start many) → (k : ℕ) → start ≤ k
+    → k < start + many → P k
+unfolding span
+every_in start zero every k low high = let never : ⊥ = omega arith in absurd never
+every_in {P} start (suc many) every k low high =
+    let parts = every_split (start ∷ []) (span (suc start) many) every in
+    go (ℕ_discrete k start) (every_at parts.0 0 0 (omega arith))
+    (λ later. every_in (suc start) many parts.1 k later (omega arith))
+  where
+    go : Dec (k ≡ start) → P start → (suc start ≤ k → P k) → P k
+    go (yes own) here rest = rw own here
+    go (no other) here rest = rest (omega arith)
 
 span_below : (start many : ℕ) → Every (λ g. g < start + many) (span start many)
 unfolding span
@@ -119,37 +144,100 @@ listed_all count list many group all done =
     let end : group ≡ group_count = omega (arith, all.reached) in
     record { few = omega (arith, all.few); is = all.is ∙ ap (λ (n : ℕ). counted_groups count (span 0 n)) end }
 
--- ---- the groups that are used cost what all groups cost, where a group that is not counted has no size
-module _ (cost size : ℕ → ℕ) (rate bound : ℕ) (rated : Rated cost size rate bound group_count) (count : ℕ → ℕ) (used : Used) (of : UsedOf count used)
-    (free : (g : ℕ) → g < group_count → count g ≡ 0 → size g ≡ 0) where
-  -- a group that is not counted costs nothing
-  no_cost : Every (λ g. count g ≡ 0 → cost g ≡ 0) groups
-  no_cost = every_implied (λ g h e. omega (arith, rw (free g h e) at (rated.each g), mul-zero rate)) (span_below 0 group_count)
-
-  pub used_sum : sum_of cost (take used.many used.list) ≡ sum_of cost groups
-  used_sum = ap (sum_of cost) of.is ∙ counted_sum count cost no_cost
-
-  pub used_within : sum_of cost (take used.many used.list) ≤ rate * bound
-  used_within = omega (arith, used_sum, sum_of_rate rate cost size groups rated.each, mul-le-mul_left rate rated.whole)
-
-  -- and the table of their costs has those of all groups
-  pub used_table : (table : List ℕ) (i : ℕ) → FrontTable group_count cost used.list used.many table i → used.many ≤ i → table ≡ map cost groups
-  used_table table i all done =
-      let end : i ≡ used.many = omega (arith, all.reached) in
-      let list = counted_groups count groups in
-      let is : table ≡ tally (λ g. g) cost (replicate group_count 0) list =
-      all.is_table ∙ ap (λ (m : ℕ). tally (λ g. g) cost (replicate group_count 0) (take m used.list)) end ∙ ap (tally (λ g. g) cost (replicate group_count 0)) of.is in
-      rw is (listed_array cost group_count _ (length_tally (λ g. g) cost (replicate group_count 0) list ∙ length-replicate {A = ℕ} group_count 0) (record { below = at }))
-    where
-      at : (k : ℕ) → k < group_count → get_or (tally (λ g. g) cost (replicate group_count 0) (counted_groups count groups)) k 0 ≡ cost k
-      at k h =
-          tallied (λ g. g) cost group_count (counted_groups count groups) k h
-          ∙ counted_sum count (λ g. cond (eqb g k) (cost g) 0) (every_implied (λ g none e. rw (none e) (cond_same (eqb g k) 0)) no_cost)
-          ∙ sum_at_lem cost group_count k h
-
 -- each of them is a group
-pub used_group : (count : ℕ → ℕ) (used : Used) → UsedOf count used → (i : ℕ) → i < used.many → used.many ≤ length used.list → get_or used.list i 0 < group_count
-used_group count used of i h sized =
-    let each : Every (λ g. g < group_count) (take used.many used.list) = rw of.is (counted_every count (span_below 0 group_count)) in
-    rw (get_or-take used.many used.list i 0 h) at
-    (every_at {P = λ g. g < group_count} each i 0 (omega (arith, length-take-le used.many used.list sized)))
+pub listed_group : (count : ℕ → ℕ) (list : List ℕ) → list ≡ counted_groups count groups → (i : ℕ)
+    → i < length list → get_or list i 0 < group_count
+listed_group count list is i h =
+    let each = every_at (counted_every count (span_below 0 group_count)) i 0 (rw is at h) in
+    rw is (omega (arith, each.0))
+
+-- ---- a table in which each of some groups has what a call gave for it, and every other nothing
+pub record Charged (gave : ℕ → ℕ → Type 0) (done table : List ℕ) : Type 0 where
+  pub sized : length table ≡ group_count
+  pub given : Every (λ g. gave g (get_or table g 0)) done
+  pub free : (k : ℕ) → k < group_count → Every (λ g. g ≡ k → ⊥) done → get_or table k 0 ≡ 0
+
+module _ (gave : ℕ → ℕ → Type 0) where
+  pub charged_none : Charged gave [] (replicate group_count 0)
+  charged_none =
+      record {
+        sized = refl;
+        given = none;
+        free = λ k h every. get_or-replicate {A = ℕ} group_count k 0 0 h;
+      }
+
+  pub charged_next : (done table : List ℕ) (group y : ℕ) → Charged gave done table
+      → group < group_count → gave group y → Charged gave (done ++ (group ∷ [])) (set table group y)
+  charged_next done table group y before below call =
+      record {
+        sized = length-set table group y ∙ before.sized;
+        given = every_append (every_implied kept before.given) (also here none);
+        free = λ k h every.
+            let parts = every_split done (group ∷ []) every in
+            let other = every_at parts.1 0 0 (omega arith) in
+            get_or-set_other table group k y 0 (λ e. other (sym e)) ∙ before.free k h parts.0;
+      }
+    where
+      here : gave group (get_or (set table group y) group 0)
+      here = rw (get_or-set_same table group y 0 (omega (arith, before.sized))) call
+
+      kept : (g : ℕ) → gave g (get_or table g 0) → gave g (get_or (set table group y) g 0)
+      kept g was = go (ℕ_discrete g group)
+        where
+          go : Dec (g ≡ group) → gave g (get_or (set table group y) g 0)
+          go (yes own) = rw own here
+          go (no other) = rw (get_or-set_other table group g y 0 other) was
+
+  -- after all that are counted
+  module _ (count : ℕ → ℕ) (table : List ℕ) (all : Charged gave (counted_groups count groups) table)
+      (k : ℕ) (h : k < group_count) where
+    pub charged_used : (count k ≡ 0 → ⊥) → gave k (get_or table k 0)
+    charged_used some =
+        every_in 0 group_count (every_counted count groups all.given) k (omega arith)
+        (omega arith) some
+
+    pub charged_unused : count k ≡ 0 → get_or table k 0 ≡ 0
+    charged_unused zeros =
+        all.free k h
+        (every_implied (λ g each e. each.1 (ap count e ∙ zeros))
+        (counted_every count (span_below 0 group_count)))
+
+-- ---- a table that has the cost of each group that is counted, and no cost of the others
+pub record Passed (cost count : ℕ → ℕ) (table : List ℕ) : Type 0 where
+  pub sized : length table ≡ group_count
+  pub used : (g : ℕ) → g < group_count → (count g ≡ 0 → ⊥) → get_or table g 0 ≡ cost g
+  pub unused : (g : ℕ) → g < group_count → count g ≡ 0 → get_or table g 0 ≡ 0
+
+-- where a group that is not counted has no size, it has the costs of all
+module _ (cost size : ℕ → ℕ) (rate bound : ℕ) (rated : Rated cost size rate bound group_count)
+    (count : ℕ → ℕ)
+    (free : (g : ℕ) → g < group_count → count g ≡ 0 → size g ≡ 0) (table : List ℕ)
+    (passed : Passed cost count table) where
+  each_cost : Reads group_count cost table
+  each_cost = record { below = λ g h. go g h (ℕ_discrete (count g) 0) }
+    where
+      go : (g : ℕ) → g < group_count → Dec (count g ≡ 0) → get_or table g 0 ≡ cost g
+      go g h (yes zeros) =
+          omega (
+            arith,
+            passed.unused g h zeros,
+            rw (free g h zeros) at (rated.each g),
+            mul-zero rate,
+          )
+      go g h (no some) = passed.used g h some
+
+  pub costs_are : table ≡ map cost groups
+  costs_are = listed_array cost group_count table passed.sized each_cost
+
+  pub costs_sum : sum_of (λ entry. entry) table ≡ sum_of cost groups
+  costs_sum = sym (entries_sum group_count table passed.sized)
+      ∙ sum_same _ cost group_count each_cost.below
+
+  pub costs_within : sum_of (λ entry. entry) table ≤ rate * bound
+  costs_within =
+      omega (
+        arith,
+        costs_sum,
+        sum_of_rate rate cost size groups rated.each,
+        mul-le-mul_left rate rated.whole,
+      )

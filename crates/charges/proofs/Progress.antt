@@ -1,6 +1,7 @@
 -- A pass over legs: what holds after some of them, that there is room for the next, and what holds where the pass is left.
 -- Assumes nothing.
-use mathlib.Core.Path.{◌≡◌, sym, ◌∙◌}
+use mathlib.Core.Path.{◌≡◌, refl, sym, ap, ◌∙◌}
+use Rattle.std.proofs.Common.{Ok, Err}
 use mathlib.Core.List.{List, [], ◌∷◌, ◌++◌}
 use Prim.Native.Nat.{ℕ, ◌+◌, ◌*◌, ◌≤◌, ◌<◌}
 use native.Mathlib.Nat.{mul-le-mul_left, mul-le-mul_right}
@@ -10,20 +11,25 @@ use mathlib.Core.Bool.{◌||◌}
 use lib.Dec.{eqb}
 use lib.ListN.{length, take, get_or, replicate, length-replicate}
 use lib.Seq.{take-suc}
-use borrow.Author.Tests.{eq-eqb, ne_eqb}
+use borrow.Author.Tests.{ne_eqb}
 use Rattle.sums.specs.Sums.{sum_of}
 use Rattle.sums.specs.Inner.Tables.{tally, placed}
 use Rattle.sums.proofs.Sums.{sum_of_append, sum_at≤}
 use Rattle.sums.proofs.Cases.{either}
 use Rattle.sums.proofs.Tables.{length_tally, tally_last, tallied}
 use Rattle.book.specs.Refusals.{most_rows, most_amount, row_refusal, refused, first_refusal}
+use Rattle.book.specs.declared.reasons.Reason.{Reason}
+use Rattle.book.specs.Reasons.{number_of, numbers_of, told}
 use Rattle.book.specs.Accepted.{Clean}
 use Rattle.book.specs.Legs.{Leg}
+use Rattle.book.proofs.Numbers.{some_of}
 use Rattle.book.proofs.Passing.{passes_clean}
 use Rattle.book.proofs.Searching.{Passed, none_passed, passes, leaves, all_passed}
+use Rattle.ladder.specs.Inner.Steps.{longs_of, shorts_of}
+use Rattle.ladder.proofs.Arrays.{longs_more, shorts_more, no_longs, no_shorts}
 use Rattle.charges.specs.Charges.{eight_per_cent, specific_of}
-use Rattle.charges.specs.Inner.Slots.{slot_count, leg_slot, group_slots, group_slot, leg_long, leg_short, leg_specific, leg_counted, LegSums, Clear, Roomy, Room, Added}
-use Rattle.charges.specs.Inner.Pass.{refusal_after, refused_at, taken_of, passed, PassOf}
+use Rattle.charges.specs.Inner.Slots.{slot_count, leg_slot, group_slots, group_slot, leg_long, leg_short, leg_specific, leg_counted, amounts_of, Sums, LegSums, Clear, Roomy, Room, with_leg}
+use Rattle.charges.specs.Inner.Pass.{Took, passed, PassOf}
 use Rattle.charges.proofs.Legs.{amount_within, weight_within}
 
 -- ---- one table
@@ -67,38 +73,47 @@ most_counted : (leg : Leg) → leg_counted leg ≤ 1
 unfolding leg_counted
 most_counted leg = either (eqb leg.class 1 || eqb leg.class 4) 1 0 (omega arith) (omega arith)
 
--- ---- all of them
--- the first n of some legs passed and are in the tables
-pub record Progress (legs : List Leg) (n : ℕ) (longs shorts specifics rows : List ℕ) : Type 0 where
-  went_on : Passed legs n
-  in_longs : Kept slot_count leg_slot leg_long most_amount n (take n legs) longs
-  in_shorts : Kept slot_count leg_slot leg_short most_amount n (take n legs) shorts
-  in_specifics : Kept group_slots group_slot leg_specific (eight_per_cent * most_amount) n (take n legs) specifics
-  in_rows : Kept group_slots group_slot leg_counted 1 n (take n legs) rows
+-- ---- one row
+-- refused, or added
+module _ (leg : Leg) (number : ℕ) (found : number ≡ row_refusal leg.class leg.row) where
+  pub took_none : (sums : Sums) → (number ≡ 0 → ⊥) → Took leg number sums sums
+  took_none sums bad = record { is = found; added = λ e. absurd (bad e); kept = λ _. refl }
 
-module _ (legs : List Leg) (longs shorts specifics rows : List ℕ) where
-  pub none_taken : Clear longs shorts specifics rows → Progress legs 0 longs shorts specifics rows
+  pub took_one : {old new : Sums} → number ≡ 0 → new ≡ with_leg leg old → Took leg number old new
+  took_one good added = record { is = found; added = λ _. added; kept = λ bad. absurd (bad good) }
+
+-- ---- all of them
+-- the first n of some legs passed and are in the sums
+pub record Progress (legs : List Leg) (n : ℕ) (sums : Sums) : Type 0 where
+  went_on : Passed legs n
+  in_longs : Kept slot_count leg_slot leg_long most_amount n (take n legs) (longs_of sums.positions)
+  in_shorts : Kept slot_count leg_slot leg_short most_amount n (take n legs) (shorts_of sums.positions)
+  in_specifics : Kept group_slots group_slot leg_specific (eight_per_cent * most_amount) n (take n legs) sums.specifics
+  in_rows : Kept group_slots group_slot leg_counted 1 n (take n legs) sums.rows
+
+module _ (legs : List Leg) (sums : Sums) where
+  pub none_taken : Clear sums → Progress legs 0 sums
   none_taken clear =
       record {
         went_on = none_passed legs;
-        in_longs = kept_none slot_count leg_slot leg_long most_amount longs clear.no_longs;
-        in_shorts = kept_none slot_count leg_slot leg_short most_amount shorts clear.no_shorts;
-        in_specifics = kept_none group_slots group_slot leg_specific (eight_per_cent * most_amount) specifics clear.no_specifics;
-        in_rows = kept_none group_slots group_slot leg_counted 1 rows clear.no_rows;
+        in_longs = kept_none slot_count leg_slot leg_long most_amount (longs_of sums.positions) (ap longs_of clear.no_positions ∙ no_longs slot_count);
+        in_shorts = kept_none slot_count leg_slot leg_short most_amount (shorts_of sums.positions) (ap shorts_of clear.no_positions ∙ no_shorts slot_count);
+        in_specifics = kept_none group_slots group_slot leg_specific (eight_per_cent * most_amount) sums.specifics clear.no_specifics;
+        in_rows = kept_none group_slots group_slot leg_counted 1 sums.rows clear.no_rows;
       }
 
-  module _ (n : ℕ) (so_far : Progress legs n longs shorts specifics rows) where
+  module _ (n : ℕ) (so_far : Progress legs n sums) where
     -- there is room for one leg more
-    pub leg-room : n < most_rows → Room longs shorts specifics rows
+    pub leg-room : n < most_rows → Room sums
     leg-room few =
         record {
-          in_longs = kept_room slot_count leg_slot leg_long most_amount n (take n legs) longs so_far.in_longs few;
-          in_shorts = kept_room slot_count leg_slot leg_short most_amount n (take n legs) shorts so_far.in_shorts few;
-          in_specifics = kept_room group_slots group_slot leg_specific (eight_per_cent * most_amount) n (take n legs) specifics so_far.in_specifics few;
-          in_rows = kept_room group_slots group_slot leg_counted 1 n (take n legs) rows so_far.in_rows few;
+          in_longs = kept_room slot_count leg_slot leg_long most_amount n (take n legs) (longs_of sums.positions) so_far.in_longs few;
+          in_shorts = kept_room slot_count leg_slot leg_short most_amount n (take n legs) (shorts_of sums.positions) so_far.in_shorts few;
+          in_specifics = kept_room group_slots group_slot leg_specific (eight_per_cent * most_amount) n (take n legs) sums.specifics so_far.in_specifics few;
+          in_rows = kept_room group_slots group_slot leg_counted 1 n (take n legs) sums.rows so_far.in_rows few;
         }
 
-    sums_so_far : LegSums (take n legs) longs shorts specifics rows
+    sums_so_far : LegSums (take n legs) sums.positions sums.specifics sums.rows
     sums_so_far =
         record { is_longs = so_far.in_longs.is; is_shorts = so_far.in_shorts.is; is_specifics = so_far.in_specifics.is; is_rows = so_far.in_rows.is }
 
@@ -107,48 +122,33 @@ module _ (legs : List Leg) (longs shorts specifics rows : List ℕ) where
       next_legs = rw (add-one n, ← is_leg) (take-suc legs n none within)
 
       -- a leg that passes is added
-      pub leg-taken : row_refusal leg.class leg.row ≡ 0 → (longs' shorts' specifics' rows' : List ℕ)
-          → Added leg longs shorts specifics rows longs' shorts' specifics' rows' → Progress legs (n + 1) longs' shorts' specifics' rows'
-      leg-taken good longs' shorts' specifics' rows' added =
+      pub leg-taken : row_refusal leg.class leg.row ≡ 0 → Progress legs (n + 1) (with_leg leg sums)
+      unfolding with_leg
+      leg-taken good =
           let clean = passes_clean leg.class leg.row good in
           let before = take n legs in
           record {
             went_on = passes legs n leg none within is_leg so_far.went_on good;
-            in_longs = rw (next_legs, added.to_longs) (kept_next slot_count leg_slot leg_long most_amount n before longs so_far.in_longs leg clean.long);
-            in_shorts = rw (next_legs, added.to_shorts) (kept_next slot_count leg_slot leg_short most_amount n before shorts so_far.in_shorts leg clean.short);
-            in_specifics = rw (next_legs, added.to_specifics)
-                (kept_next group_slots group_slot leg_specific (eight_per_cent * most_amount) n before specifics so_far.in_specifics leg (most_specific leg clean));
-            in_rows = rw (next_legs, added.to_rows) (kept_next group_slots group_slot leg_counted 1 n before rows so_far.in_rows leg (most_counted leg));
+            in_longs = rw (next_legs, longs_more sums.positions (leg_slot leg) (amounts_of leg.row)) (kept_next slot_count leg_slot leg_long most_amount n before (longs_of sums.positions) so_far.in_longs leg clean.long);
+            in_shorts = rw (next_legs, shorts_more sums.positions (leg_slot leg) (amounts_of leg.row)) (kept_next slot_count leg_slot leg_short most_amount n before (shorts_of sums.positions) so_far.in_shorts leg clean.short);
+            in_specifics = rw next_legs
+                (kept_next group_slots group_slot leg_specific (eight_per_cent * most_amount) n before sums.specifics so_far.in_specifics leg (most_specific leg clean));
+            in_rows = rw next_legs (kept_next group_slots group_slot leg_counted 1 n before sums.rows so_far.in_rows leg (most_counted leg));
           }
 
       -- a leg that is refused ends the pass
-      pub leg-refused : (row_refusal leg.class leg.row ≡ 0 → ⊥)
-          → PassOf (first_refusal 0 legs) legs (refused_at (row_refusal leg.class leg.row) n) longs shorts specifics rows
-      unfolding refused_at taken_of passed refused
-      leg-refused bad =
-          let found = leaves legs n leg none within is_leg so_far.went_on bad in
+      pub leg-refused : (reason : Reason) → number_of reason ≡ row_refusal leg.class leg.row
+          → PassOf (first_refusal 0 legs) legs (Err (record { reason = reason; row = n; book = 0 })) sums
+      unfolding told numbers_of passed refused
+      leg-refused reason found =
+          let bad = some_of reason found in
+          let at = leaves legs n leg none within is_leg so_far.went_on bad in
           let number = ne_eqb (row_refusal leg.class leg.row) 0 bad in
-          record { is_taken = rw (found, number); sums = rw (found, number) sums_so_far }
+          record { is_refusal = rw (at, found); all = tt; sums_are = rw (at, number) sums_so_far }
 
     -- after the last leg the tables hold the sums of all
-    pub all_taken : n ≡ length legs → PassOf (first_refusal 0 legs) legs (record { refusal = refused 0 0; rows = n }) longs shorts specifics rows
-    unfolding taken_of passed refused
+    pub all_taken : n ≡ length legs → PassOf (first_refusal 0 legs) legs (Ok n) sums
+    unfolding told passed refused
     all_taken all =
         let found = all_passed legs n (omega arith) so_far.went_on in
-        record { is_taken = rw (found, all); sums = rw (found, ← all) sums_so_far }
-
--- ---- what comes before the rows
-module _ (number : ℕ) (legs : List Leg) where
-  pub refused-before : (longs shorts specifics rows : List ℕ) → Clear longs shorts specifics rows → (number ≡ 0 → ⊥)
-      → PassOf (refusal_after number legs) legs (refused_at number 0) longs shorts specifics rows
-  unfolding refused_at taken_of passed refused refusal_after
-  refused-before longs shorts specifics rows clear bad =
-      let some = ne_eqb number 0 bad in
-      record {
-        is_taken = simp some;
-        sums = simp some (sums_so_far legs longs shorts specifics rows 0 (none_taken legs longs shorts specifics rows clear));
-      }
-
-  pub none_before : number ≡ 0 → refusal_after number legs ≡ first_refusal 0 legs
-  unfolding refusal_after
-  none_before e = rw (eq-eqb _ _ e)
+        record { is_refusal = rw found; all = all; sums_are = rw (found, ← all) sums_so_far }

@@ -1,27 +1,35 @@
 -- From what was read of a book to the answers of the ladder calls.
 -- Assumes nothing.
-use mathlib.Core.Path.{◌≡◌, refl, sym, ap, ◌∙◌}
-use mathlib.Core.Bool.{cond}
+use mathlib.Core.Path.{◌≡◌, refl, sym, ap, subst, ◌∙◌}
+use mathlib.Core.Bool.{true, cond}
 use mathlib.Core.List.{List}
 use Prim.Native.Nat.{ℕ, ◌≤◌, ◌<◌}
 use native.Mathlib.Omega.{arith}
 use lib.Dec.{eqb}
-use lib.ListN.{replicate}
 use borrow.Author.Tests.{lt-ltb, le-ltb, eq-eqb, ne_eqb}
+use Rattle.std.proofs.Common.{Result, Ok, Err}
+use Rattle.std.specs.Result.{IsErrAnd}
 use Rattle.sums.proofs.Cases.{either}
-use Rattle.book.specs.declared.Refusal.{Refusal}
-use Rattle.book.specs.declared.Checked.{Checked}
 use Rattle.book.specs.declared.Counts.{Counts}
-use Rattle.book.specs.Counts.{count_in, count_of_rows}
+use Rattle.book.specs.Counts.{count_in, count_of_rows, counts_of, body_of}
+use Rattle.book.specs.declared.Refusal.{Refusal}
 use Rattle.book.specs.Refusals.{last_group, refused, refusal_of}
-use Rattle.book.specs.Inner.Reading.{no_counts, checked_with, checked_of, part_rows, ReadOf}
-use Rattle.book.specs.Parts.{part_of}
-use Rattle.ladder.specs.Inner.Steps.{band_count}
+use Rattle.book.specs.declared.reasons.Reason.{Reason}
+use Rattle.book.specs.declared.reasons.Reason.TheVariants.{LadderGroup}
+use Rattle.book.specs.declared.reasons.Refused.{Refused}
+use Rattle.book.specs.Reasons.{number_of, numbers_of, told, at_start}
+use Rattle.book.specs.Inner.Reading.{part_rows}
+use Rattle.book.specs.Parts.{accepts, part_of}
+use Rattle.book.proofs.Numbers.{none_told, some_told, told_on}
+use Rattle.book.proofs.Handing.{accepted_reads, part_accepted}
+use Rattle.ladder.specs.declared.positions.Position.{Position}
 use Rattle.ladder.specs.declared.InterestFigures.{InterestFigures}
 use Rattle.ladder.specs.declared.CommodityFigures.{CommodityFigures}
-use Rattle.charges.specs.Report.{InterestLadder, CommodityLadder, class_rows, before, ladder_refusal}
+use Rattle.table.specs.Loaded.{table_refusal, table_of}
+use Rattle.charges.specs.Charges.{interest_figures_of, commodity_figures_of}
+use Rattle.charges.specs.Report.{class_rows, before, ladder_refusal, figures_or, no_interest, no_commodity, interest_answer, commodity_answer, interest_ladder_of, commodity_ladder_of}
 use Rattle.charges.specs.Inner.Ladders.{CleanPart, GroupSums}
-use Rattle.charges.specs.Inner.Answers.{LadderSums, ladder_checked, LadderRead, LadderSumsOf}
+use Rattle.charges.specs.Inner.Answers.{SumsGiven}
 
 -- ---- a part that was read
 -- no class has more rows than all
@@ -32,85 +40,88 @@ part_within counts class =
     (either (eqb class 2) counts.equity _ (omega arith)
     (either (eqb class 3) counts.exchange _ (omega arith) (either (eqb class 4) counts.commodity 0 (omega arith) (omega arith))))
 
-pub read_part : (s : List ℕ) (checked : Checked) → ReadOf s checked → (class : ℕ) → 1 ≤ class → class ≤ 4 → CleanPart class (part_of s class)
-read_part s checked read class low high =
-    record { clean = read.clean class low high; few = omega (arith, read.sizes class, read.few, part_within checked.counts class) }
+-- a class's part of an accepted book: its rows are clean, and are those of the class
+module _ (s : List ℕ) (ok : accepts s ≡ true) (class : ℕ) (low : 1 ≤ class) (high : class ≤ 4) where
+  part_clean : CleanPart class (part_of s class)
+  part_clean =
+      let read = accepted_reads s ok refl in
+      record { clean = read.clean class low high; few = omega (arith, read.sizes class, read.few, part_within (counts_of s) class) }
 
--- ---- what a ladder call reads
-module _ (s : List ℕ) (first group : ℕ) where
-  -- refused before the book is looked at, by one number
-  refused-by : (number : ℕ) → (number ≡ 0 → ⊥) → (checked : Checked) → checked ≡ checked_with (refused number 0) no_counts
-      → ladder_refusal (before first (refusal_of s)) group ≡ refused number 0 → LadderRead s first group checked
-  unfolding ladder_checked checked_with refused
-  refused-by number some checked is why =
-      record {
-        is = is ∙ rw why (simp (ne_eqb number 0 some));
-        none_first = λ e. absurd (never e);
-        in_range = λ e. absurd (never e);
-        read = λ e. absurd (never e);
-      }
-    where
-      never : checked.refusal.number ≡ 0 → ⊥
-      never e = some (ap (λ (x : Checked). x.refusal.number) (sym is) ∙ e)
+  pub body_clean : CleanPart class (body_of s class)
+  body_clean = subst (CleanPart class) (part_accepted s class ok) part_clean
 
-  pub refused-group : (checked : Checked) → last_group < group → checked ≡ checked_with (refused 10 0) no_counts → LadderRead s first group checked
-  unfolding ladder_refusal
-  refused-group checked over is = refused-by 10 (λ e. omega arith) checked is (simp (lt-ltb last_group group over))
+  pub sums_given : {group : ℕ} {positions : List Position} → GroupSums class group (part_rows (body_of s class)) positions → SumsGiven s class group positions
+  sums_given sums =
+      let rows : part_rows (body_of s class) ≡ class_rows s class = ap part_rows (sym (part_accepted s class ok)) ∙ (accepted_reads s ok refl).rows class low high in
+      record { clean = rw (← rows) body_clean.clean; few = rw (← rows) body_clean.few; sums = rw (← rows) sums }
 
-  pub refused-first : (checked : Checked) → group ≤ last_group → (first ≡ 0 → ⊥) → checked ≡ checked_with (refused first 0) no_counts → LadderRead s first group checked
-  unfolding ladder_refusal before
-  refused-first checked range some is = refused-by first some checked is (simp (le-ltb last_group group range, ne_eqb first 0 some))
+-- ---- a reason against no row, in numbers
+pub start_told : (reason : Reason) {n : ℕ} → number_of reason ≡ n → numbers_of (at_start reason) ≡ refused n 0
+unfolding numbers_of refused
+start_told reason e = ap (λ n. refused n 0) e
 
-  pub given_ladder : (checked : Checked) → group ≤ last_group → first ≡ 0 → ReadOf s checked → LadderRead s first group checked
-  unfolding ladder_checked ladder_refusal before checked_of
-  given_ladder checked range none read =
-      record { is = read.is ∙ simp (le-ltb last_group group range, eq-eqb first 0 none); none_first = λ e. none; in_range = λ e. range; read = λ e. read }
+pub ladder_told : (reason : Reason) → reason ≡ LadderGroup → numbers_of (at_start reason) ≡ refused 10 0
+unfolding number_of
+ladder_told reason e = start_told reason (ap number_of e)
 
-  -- what is read for a ladder call
-  module _ (checked : Checked) (ladder : LadderRead s first group checked) where
-    ladder_refusal_lem : checked.refusal ≡ ladder_refusal (before first (refusal_of s)) group
-    unfolding ladder_checked checked_with
-    ladder_refusal_lem = ap (λ (x : Checked). x.refusal) ladder.is
+-- ---- what a ladder call refuses: a wrong group first, then by a number that comes before the book
+pub group_refused : (refusal : Refusal) {group : ℕ} → last_group < group → refused 10 0 ≡ ladder_refusal refusal group
+unfolding ladder_refusal
+group_refused refusal {group} over = simp (lt-ltb last_group group over)
 
-    -- the sums of a group: those of the class's part of the book, or none
-    module _ (class : ℕ) where
-      pub sums_given : 1 ≤ class → class ≤ 4 → {part longs shorts : List ℕ} → checked.refusal.number ≡ 0 → part ≡ part_of s class
-          → GroupSums class group (part_rows part) longs shorts
-          → LadderSumsOf s class first group (record { refusal = checked.refusal; longs = longs; shorts = shorts })
-      sums_given low high {part} {longs} {shorts} good part_is sums =
-          let read = ladder.read good in
-          let rows : part_rows part ≡ class_rows s class = ap part_rows part_is ∙ read.rows good class low high in
-          let clean : CleanPart class part = rw part_is (read_part s checked read class low high) in
-          record {
-            is_refusal = ladder_refusal_lem;
-            given = λ e. record { none_first = ladder.none_first good; clean = rw (← rows) clean.clean; few = rw (← rows) clean.few; sums = rw (← rows) sums };
-            no_longs = λ bad. absurd (bad good);
-            no_shorts = λ bad. absurd (bad good);
-          }
+pub group_passed : (refusal : Refusal) {group : ℕ} → group ≤ last_group → refusal ≡ ladder_refusal refusal group
+unfolding ladder_refusal
+group_passed refusal {group} range = simp (le-ltb last_group group range)
 
-      pub sums_refused : (checked.refusal.number ≡ 0 → ⊥)
-          → LadderSumsOf s class first group (record { refusal = checked.refusal; longs = replicate band_count 0; shorts = replicate band_count 0 })
-      sums_refused bad = record { is_refusal = ladder_refusal_lem; given = λ e. absurd (bad e); no_longs = λ _. refl; no_shorts = λ _. refl }
+pub number_first : (number : ℕ) (refusal : Refusal) → (number ≡ 0 → ⊥) → refused number 0 ≡ before number refusal
+unfolding before
+number_first number refusal some = simp (ne_eqb number 0 some)
 
--- ---- what a ladder call gives, of either ladder
-module _ {s : List ℕ} {class first group : ℕ} {r : LadderSums} (sums : LadderSumsOf s class first group r) where
-  told : r.refusal.number ≡ (ladder_refusal (before first (refusal_of s)) group).number
-  told = ap (λ (refusal : Refusal). refusal.number) sums.is_refusal
+pub number_none : (number : ℕ) (refusal : Refusal) → number ≡ 0 → refusal ≡ before number refusal
+unfolding before
+number_none number refusal none = simp (eq-eqb number 0 none)
 
-  -- its figures where it is refused, and where it is not
-  pub ladder_refused : {A : Type 0} (figures none : A) → (r.refusal.number ≡ 0 → ⊥)
-      → cond (eqb (ladder_refusal (before first (refusal_of s)) group).number 0) figures none ≡ none
-  ladder_refused figures none bad = simp (ne_eqb _ _ (λ e. bad (told ∙ e)))
+-- ---- the figures of an answer, by its refusal
+module _ {A : Type 0} (figures none : A) where
+  figures_refused : (answer : Result A Refused) (r : Refused) {refusal : Refusal} → IsErrAnd answer (λ y. y ≡ r) → numbers_of r ≡ refusal → figures_or none answer ≡ cond (eqb refusal.number 0) figures none
+  unfolding figures_or
+  figures_refused (Ok value) r h e = absurd h
+  figures_refused (Err own) r h e = simp (ne_eqb _ _ (some_told r e))
 
-  pub ladder_given : {A : Type 0} (figures none : A) → r.refusal.number ≡ 0
-      → cond (eqb (ladder_refusal (before first (refusal_of s)) group).number 0) figures none ≡ figures
-  ladder_given figures none good = simp (eq-eqb _ _ (sym told ∙ good))
+  figures_given : (refusal : Refusal) → refusal.number ≡ 0 → figures ≡ cond (eqb refusal.number 0) figures none
+  figures_given refusal good = simp (eq-eqb _ _ good)
 
--- the answers, field by field
-pub same_interest : {refusal refusal' : Refusal} {figures figures' : InterestFigures} → refusal ≡ refusal' → figures ≡ figures'
-    → ◌≡◌ {A = InterestLadder} (record { refusal = refusal; figures = figures }) (record { refusal = refusal'; figures = figures' })
-same_interest e f = λ i. record { refusal = e i; figures = f i }
+-- ---- the answers
+module _ (table s : List ℕ) (group : ℕ) where
+  abbrev interest_refusal : Refusal
+  interest_refusal = ladder_refusal (before (table_refusal table) (refusal_of s)) group
 
-pub same_commodity : {refusal refusal' : Refusal} {figures figures' : CommodityFigures} → refusal ≡ refusal' → figures ≡ figures'
-    → ◌≡◌ {A = CommodityLadder} (record { refusal = refusal; figures = figures }) (record { refusal = refusal'; figures = figures' })
-same_commodity e f = λ i. record { refusal = e i; figures = f i }
+  pub interest_refused : (answer : Result InterestFigures Refused) (r : Refused) → IsErrAnd answer (λ y. y ≡ r) → numbers_of r ≡ interest_refusal → interest_answer answer ≡ interest_ladder_of table s group
+  unfolding interest_answer interest_ladder_of
+  interest_refused answer r h e =
+      let refusal = told_on answer r h e in
+      λ i. record { refusal = refusal i; figures = figures_refused (interest_figures_of (table_of table) group (class_rows s 1)) no_interest answer r h e i }
+
+  pub interest_given : {figures : InterestFigures} → refused 0 0 ≡ interest_refusal → figures ≡ interest_figures_of (table_of table) group (class_rows s 1)
+      → interest_answer (Ok figures) ≡ interest_ladder_of table s group
+  unfolding interest_answer interest_ladder_of figures_or told
+  interest_given e f =
+      let given = f ∙ figures_given (interest_figures_of (table_of table) group (class_rows s 1)) no_interest interest_refusal (none_told e) in
+      λ i. record { refusal = e i; figures = given i }
+
+module _ (s : List ℕ) (group : ℕ) where
+  abbrev commodity_refusal : Refusal
+  commodity_refusal = ladder_refusal (refusal_of s) group
+
+  pub commodity_refused : (answer : Result CommodityFigures Refused) (r : Refused) → IsErrAnd answer (λ y. y ≡ r) → numbers_of r ≡ commodity_refusal → commodity_answer answer ≡ commodity_ladder_of s group
+  unfolding commodity_answer commodity_ladder_of
+  commodity_refused answer r h e =
+      let refusal = told_on answer r h e in
+      λ i. record { refusal = refusal i; figures = figures_refused (commodity_figures_of group (class_rows s 4)) no_commodity answer r h e i }
+
+  pub commodity_given : {figures : CommodityFigures} → refused 0 0 ≡ commodity_refusal → figures ≡ commodity_figures_of group (class_rows s 4)
+      → commodity_answer (Ok figures) ≡ commodity_ladder_of s group
+  unfolding commodity_answer commodity_ladder_of figures_or told
+  commodity_given e f =
+      let given = f ∙ figures_given (commodity_figures_of group (class_rows s 4)) no_commodity commodity_refusal (none_told e) in
+      λ i. record { refusal = e i; figures = given i }

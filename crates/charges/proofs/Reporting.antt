@@ -2,34 +2,43 @@
 -- Assumes nothing.
 use mathlib.Core.Path.{◌≡◌, ap, ◌∙◌}
 use mathlib.Core.Bool.{Bool, true, false, cond}
-use mathlib.Core.List.{List}
-use Prim.Native.Nat.{ℕ, ◌+◌, ◌≤◌}
+use mathlib.Core.List.{List, map}
+use Prim.Native.Nat.{ℕ, ◌+◌, ◌*◌, ◌≤◌}
 use native.Mathlib.Omega.{arith}
 use lib.Dec.{eqb}
-use lib.ListN.{length, length-replicate}
+use lib.ListN.{length, get_or, length-replicate}
 use borrow.Author.Tests.{eq-eqb, ne_eqb}
 use Rattle.sums.specs.Sums.{sum_of}
 use Rattle.book.specs.Counts.{count_in, count_of_rows}
 use Rattle.book.specs.Legs.{legs_of}
 use Rattle.book.specs.Refusals.{refused, refusal_of}
+use Rattle.std.proofs.Common.{Result, Ok, Err}
+use Rattle.std.specs.Result.{IsErrAnd}
+use Rattle.book.specs.declared.reasons.Refused.{Refused}
+use Rattle.book.specs.Reasons.{number_of, numbers_of, at_start}
+use Rattle.book.specs.declared.reasons.Reason.{Reason}
 use Rattle.book.specs.Accepted.{Accepted}
+use Rattle.book.proofs.Numbers.{some_of}
+use Rattle.book.proofs.Handing.{refused_accepts}
 use Rattle.book.specs.Parts.{accepts}
 use Rattle.ladder.specs.declared.Table.{Table}
 use Rattle.ladder.specs.Table.{most_weight}
 use Rattle.ladder.specs.Inner.Steps.{TableBounds}
 use Rattle.table.specs.Loaded.{table_refusal, table_of}
-use Rattle.charges.specs.Charges.{specific_charge, interest_general, equity_general, exchange_general, commodity_general, interest_risk, equity_risk, by_currency}
+use Rattle.charges.specs.Charges.{specific_charge, interest_general, equity_general, exchange_general, commodity_general, interest_risk, equity_risk, by_currency, eight_per_cent, groups, currencies}
 use Rattle.charges.specs.Report.{Report, class_rows, report_with, refused_report, charged_report, before, report_of}
-use Rattle.charges.specs.Inner.Slots.{group_count}
-use Rattle.charges.specs.Inner.Pass.{Taken, taken_of}
-use Rattle.charges.specs.Inner.Answers.{most_total, report_by}
-use Rattle.charges.proofs.Taking.{taken_refusal, taken_number, none_refused, taken_all}
+use Rattle.ladder.specs.Interest.{interest_figures}
+use Rattle.ladder.specs.Commodity.{commodity_figures}
+use Rattle.ladder.specs.Nets.{absolute_nets, shorthand}
+use Rattle.charges.specs.Inner.Slots.{group_count, equity_first, exchange_first, Sums, LegSums}
+use Rattle.charges.specs.Inner.Tables.{bands_from, weighted_from, currency_at, commodity_at}
+use Rattle.charges.specs.Inner.Answers.{most_total, reported, report_by}
 use Rattle.charges.proofs.Legs.{amounts_within, specific_within}
 use Rattle.charges.proofs.Rates.{interest_rate, equity-rate, exchange_rate, commodity-rate}
 use Rattle.charges.proofs.Currencies.{specifics_sum, generals_sum, currencies-many, currency-sum}
 use Rattle.book.proofs.Acceptance.{refused-with_none}
 use Rattle.book.proofs.ClassRows.{class_size, rows_clean}
-use Rattle.charges.proofs.Costs.{rows_grouped}
+use Rattle.charges.proofs.Costs.{rows_grouped, Costs, costs, generals_are}
 
 -- ---- the report
 -- no total is over 280,000 mils for each unit of 4,000 rows of the largest amount
@@ -86,9 +95,10 @@ lists_sized table s = go (eqb (before (table_refusal table) (refusal_of s)).numb
     go false = record { specifics_many = length-replicate {A = ℕ} group_count 0; generals_many = length-replicate {A = ℕ} group_count 0 }
 
 -- a refused table, and one that was loaded
-pub table_refused : (table s : List ℕ) (number : ℕ) → number ≡ table_refusal table → (number ≡ 0 → ⊥) → refused_report (refused number 0) ≡ report_of table s
-unfolding report_of before refused
-table_refused table s number is bad = simp (← is, ne_eqb _ _ bad)
+pub table_refused : (table s : List ℕ) (answer : Result Report Refused) (reason : Reason) → IsErrAnd answer (λ y. y ≡ at_start reason) → number_of reason ≡ table_refusal table → reported answer ≡ report_of table s
+unfolding reported report_of before numbers_of refused
+table_refused table s (Ok report) reason h e = absurd h
+table_refused table s (Err own) reason h e = rw (h, e) (simp (ne_eqb _ _ (some_of reason e)))
 
 pub table_loaded : (table s : List ℕ) → table_refusal table ≡ 0 → report_by (table_of table) s ≡ report_of table s
 unfolding report_of report_by before accepts
@@ -108,30 +118,63 @@ pub record Six (table : Table) (s : List ℕ) (p g q h x y : ℕ) : Type 0 where
   pub exchange : x ≡ exchange_general (class_rows s 3)
   pub commodity : y ≡ commodity_general (class_rows s 4)
 
-module _ (table : Table) (s : List ℕ) (taken : Taken) (is : taken ≡ taken_of (refusal_of s) (legs_of s)) where
-  pub report_refused : (report : Report) → report ≡ refused_report taken.refusal → (taken.refusal.number ≡ 0 → ⊥) → report ≡ report_by table s
+-- what is read out of the sums of an accepted book's rows
+module _ (table : Table) (s : List ℕ) (ok : Accepted s) (sums : Sums) (of : LegSums (legs_of s) sums.positions sums.specifics sums.rows) where
+  cost : Costs s sums.positions sums.specifics sums.rows
+  cost = costs s sums.positions sums.specifics sums.rows ok of
+
+  module _ {specifics generals : List ℕ} (is_specifics : specifics ≡ map (λ g. get_or sums.specifics (0 + g) 0) groups)
+      (is_generals : generals ≡ map (λ g. (interest_figures table.percents (weighted_from table sums.positions (currency_at g))).charge) groups) where
+    pub lists : Lists table s specifics generals
+    lists =
+        record {
+          specifics_are = is_specifics ∙ cost.specifics_are;
+          generals_are = is_generals ∙ generals_are s sums.positions sums.specifics sums.rows ok of table;
+        }
+
+    pub six : {equity : List ℕ} {p g q h x y : ℕ} → equity ≡ map (λ g. get_or sums.specifics (32 + g) 0) groups
+        → p ≡ sum_of (λ entry. entry) specifics → g ≡ sum_of (λ entry. entry) generals → q ≡ sum_of (λ entry. entry) equity
+        → h ≡ eight_per_cent * absolute_nets groups (bands_from sums.positions equity_first)
+        → x ≡ eight_per_cent * shorthand currencies (bands_from sums.positions exchange_first)
+        → y ≡ sum_of (λ g. (commodity_figures (bands_from sums.positions (commodity_at g))).charge) groups
+        → Six table s p g q h x y
+    six is_equity p g q h x y =
+        record {
+          interest_specific = p ∙ specifics_total table s _ _ ok lists;
+          interest_general_lem = g ∙ generals_total table s _ _ ok lists;
+          equity-specific = q ∙ ap (sum_of (λ entry. entry)) is_equity ∙ cost.equity-specific_is;
+          equity-general = h ∙ cost.equity-is;
+          exchange = x ∙ cost.exchange_is;
+          commodity = y ∙ cost.commodity-is;
+        }
+
+module _ (table : Table) (s : List ℕ) where
+  module _ {p g q h x y : ℕ} (six : Six table s p g q h x y) where
+    pub six_fit : TableBounds table → Accepted s → p + g + q + h + x + y ≤ most_total
+    six_fit ok of = omega (arith, total-fits table ok s of, six.interest_specific, six.interest_general_lem, six.equity-specific, six.equity-general, six.exchange, six.commodity)
+
+    pub report_charged : {specifics generals : List ℕ} {rows : ℕ} → Lists table s specifics generals → rows ≡ length (legs_of s)
+        → report_with (record { specific = p; general = g }) (record { specific = q; general = h }) x y rows specifics generals ≡ charged_report table s
+    unfolding charged_report interest_risk equity_risk
+    report_charged lists all =
+        rw (
+          six.interest_specific,
+          six.interest_general_lem,
+          six.equity-specific,
+          six.equity-general,
+          six.exchange,
+          six.commodity,
+          all,
+          lists.specifics_are,
+          lists.generals_are,
+        )
+
+  -- an answer of a refused book, and the report of one that passes
+  pub report_refused : (answer : Result Report Refused) (r : Refused) → IsErrAnd answer (λ y. y ≡ r) → numbers_of r ≡ refusal_of s → reported answer ≡ report_by table s
+  unfolding reported report_by
+  report_refused (Ok report) r h e = absurd h
+  report_refused (Err own) r h e = let told = ap numbers_of h ∙ e in rw told (simp (refused_accepts s r e))
+
+  pub report_passed : (refusal_of s).number ≡ 0 → charged_report table s ≡ report_by table s
   unfolding report_by accepts
-  report_refused report r bad = r ∙ simp (ne_eqb _ _ (λ e. bad (taken_number _ _ _ is ∙ e))) (ap refused_report (taken_refusal _ _ _ is))
-
-  module _ (good : taken.refusal.number ≡ 0) where
-    module _ (p g q h x y : ℕ) (six : Six table s p g q h x y) where
-      pub six_fit : TableBounds table → Accepted s → p + g + q + h + x + y ≤ most_total
-      six_fit ok of = omega (arith, total-fits table ok s of, six.interest_specific, six.interest_general_lem, six.equity-specific, six.equity-general, six.exchange, six.commodity)
-
-      pub report_charged : (specifics generals : List ℕ) → Lists table s specifics generals
-          → (report : Report) → report ≡ report_with (record { specific = p; general = g }) (record { specific = q; general = h }) x y taken.rows specifics generals → report ≡ report_by table s
-      unfolding report_by charged_report accepts interest_risk equity_risk
-      report_charged specifics generals lists report r =
-          r
-          ∙ simp (eq-eqb _ _ (none_refused _ _ _ is good))
-          (rw (
-            six.interest_specific,
-            six.interest_general_lem,
-            six.equity-specific,
-            six.equity-general,
-            six.exchange,
-            six.commodity,
-            taken_all _ _ _ is good,
-            lists.specifics_are,
-            lists.generals_are,
-          ))
+  report_passed good = simp (eq-eqb _ _ good)

@@ -17,7 +17,10 @@ use Rattle.sums.proofs.Tables.{tallied}
 use Rattle.book.specs.declared.Row.{Row}
 use Rattle.book.specs.Legs.{Leg, of_class}
 use Rattle.book.specs.Refusals.{last_group}
+use Rattle.ladder.specs.declared.positions.Position.{Position}
 use Rattle.ladder.specs.Rows.{in_group, ladder_of}
+use Rattle.ladder.specs.Inner.Steps.{bands}
+use Rattle.ladder.proofs.Arrays.{bands_by}
 use Rattle.charges.specs.Bands.{band_in}
 use Rattle.charges.specs.Charges.{reading, specific_of}
 use Rattle.charges.specs.Inner.Slots.{group_count, slot_count, slot_at, leg_with, leg_slot, group_slots, group_slot, leg_specific, leg_counted, LegSums}
@@ -44,9 +47,9 @@ module _ (index amount : Leg → ℕ) (at class : ℕ) (own : (leg : Leg) → Pl
           omega arith
 
 -- what the tables hold of a group
-pub record Holds (legs : List Leg) (class g : ℕ) (longs shorts specifics rows : List ℕ) : Type 0 where
-  pub long : (k : ℕ) → k < bands_in class → get_or longs (slot_at class g k) 0 ≡ (ladder_of (reading class) g (of_class class legs) k).long
-  pub short : (k : ℕ) → k < bands_in class → get_or shorts (slot_at class g k) 0 ≡ (ladder_of (reading class) g (of_class class legs) k).short
+pub record Holds (legs : List Leg) (class g : ℕ) (positions : List Position) (specifics rows : List ℕ) : Type 0 where
+  pub long : (k : ℕ) → k < bands_in class → (bands positions (slot_at class g k)).long ≡ (ladder_of (reading class) g (of_class class legs) k).long
+  pub short : (k : ℕ) → k < bands_in class → (bands positions (slot_at class g k)).short ≡ (ladder_of (reading class) g (of_class class legs) k).short
   pub specific : get_or specifics (group_count * (class - 1) + g) 0 ≡ sum_at (λ row. row.group) (specific_of class) g (of_class class legs)
   pub counted : get_or rows (group_count * (class - 1) + g) 0 ≡ sum_at (λ row. row.group) (λ row. leg_counted (leg_with class row)) g (of_class class legs)
 
@@ -87,11 +90,11 @@ module _ (legs : List Leg) (placed : Every Placed legs) (class g : ℕ) (low : 1
       go row (yes p) = simp (eq-eqb row.group g p, eq-eqb (group_count * (class - 1) + row.group) (group_count * (class - 1) + g) (omega arith))
       go row (no p) = simp (ne_eqb row.group g p, ne_eqb (group_count * (class - 1) + row.group) (group_count * (class - 1) + g) (λ e. p (omega arith)))
 
-  pub holds : (longs shorts specifics rows : List ℕ) → LegSums legs longs shorts specifics rows → Holds legs class g longs shorts specifics rows
-  holds longs shorts specifics rows sums =
+  pub holds : (positions : List Position) (specifics rows : List ℕ) → LegSums legs positions specifics rows → Holds legs class g positions specifics rows
+  holds positions specifics rows sums =
       record {
-        long = λ k h. rw sums.is_longs (band_sum_lem (λ row. row.long) k h);
-        short = λ k h. rw sums.is_shorts (band_sum_lem (λ row. row.short) k h);
+        long = λ k h. ap (λ (a : Position). a.long) (bands_by positions sums.is_longs sums.is_shorts (slot_at class g k)) ∙ band_sum_lem (λ row. row.long) k h;
+        short = λ k h. ap (λ (a : Position). a.short) (bands_by positions sums.is_longs sums.is_shorts (slot_at class g k)) ∙ band_sum_lem (λ row. row.short) k h;
         specific = rw sums.is_specifics (group_sum leg_specific);
         counted = rw sums.is_rows (group_sum leg_counted);
       }

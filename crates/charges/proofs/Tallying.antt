@@ -19,9 +19,13 @@ use Rattle.book.specs.declared.Row.{Row}
 use Rattle.book.specs.Rows.{rows_in, decode}
 use Rattle.book.specs.Inner.Reading.{row_of}
 use Rattle.ladder.specs.Rows.{in_group}
-use Rattle.ladder.specs.Inner.Steps.{band_count}
+use Rattle.ladder.specs.declared.positions.Position.{Position}
+use Rattle.ladder.specs.Position.{◌⊕◌}
+use Rattle.ladder.specs.Inner.Steps.{band_count, bands, longs_of, shorts_of}
+use Rattle.ladder.proofs.Arrays.{longs_more, shorts_more}
 use Rattle.charges.specs.Bands.{band_in}
 use Rattle.charges.specs.Charges.{reading}
+use Rattle.charges.specs.Inner.Slots.{amounts_of}
 use Rattle.charges.specs.Inner.Ladders.{GroupSums}
 
 -- the rows of a part, by number
@@ -48,7 +52,7 @@ module _ {A : Type 0} (index amount : A → ℕ) (n : ℕ) (rows : List A) (i : 
       let all : take i rows ++ (row ∷ drop (suc i) rows) ≡ rows = rw is_row (sym (split_at rows i d within)) in
       rw is (rw all at (tally_room index amount n (take i rows) row (drop (suc i) rows) (index row) h))
 
--- ---- the two arrays of a group: a row of the group adds its amounts at its band, a row of another adds nothing
+-- ---- the positions of a group: a row of the group adds its amounts at its band, a row of another adds nothing
 module _ (class group : ℕ) (rows : List Row) (i : ℕ) (row : Row) (within : i < length rows) (is_row : row ≡ get_or rows i (decode [])) where
   abbrev grouped : (Row → ℕ) → Row → ℕ
   grouped = in_group (reading class) group
@@ -76,15 +80,19 @@ module _ (class group : ℕ) (rows : List Row) (i : ℕ) (row : Row) (within : i
         sum_of≤ (grouped amount) amount rows (λ r m. counted≤ (eqb r.group group) (amount r)),
       )
 
-  module _ (longs shorts : List ℕ) (of : GroupSums class group (take i rows) longs shorts) where
+  module _ (positions : List Position) (of : GroupSums class group (take i rows) positions) where
     pub group_next : row.group ≡ group
-        → GroupSums class group (take (i + 1) rows) (placed (band_in class) (λ r. r.long) longs row) (placed (band_in class) (λ r. r.short) shorts row)
-    group_next e = record { is_longs = side_next (λ r. r.long) longs of.is_longs e; is_shorts = side_next (λ r. r.short) shorts of.is_shorts e }
+        → GroupSums class group (take (i + 1) rows) (set positions (band_in class row) (bands positions (band_in class row) ⊕ amounts_of row))
+    group_next e =
+        record {
+          is_longs = longs_more positions (band_in class row) (amounts_of row) ∙ side_next (λ r. r.long) (longs_of positions) of.is_longs e;
+          is_shorts = shorts_more positions (band_in class row) (amounts_of row) ∙ side_next (λ r. r.short) (shorts_of positions) of.is_shorts e;
+        }
 
-    pub group_kept : (row.group ≡ group → ⊥) → GroupSums class group (take (i + 1) rows) longs shorts
+    pub group_kept : (row.group ≡ group → ⊥) → GroupSums class group (take (i + 1) rows) positions
     group_kept other =
         let nothing : eqb row.group group ≡ false = ne_eqb row.group group other in
         record {
-          is_longs = table_kept (band_in class) (grouped (λ r. r.long)) band_count rows i (decode []) row within is_row longs of.is_longs (rw nothing);
-          is_shorts = table_kept (band_in class) (grouped (λ r. r.short)) band_count rows i (decode []) row within is_row shorts of.is_shorts (rw nothing);
+          is_longs = table_kept (band_in class) (grouped (λ r. r.long)) band_count rows i (decode []) row within is_row (longs_of positions) of.is_longs (rw nothing);
+          is_shorts = table_kept (band_in class) (grouped (λ r. r.short)) band_count rows i (decode []) row within is_row (shorts_of positions) of.is_shorts (rw nothing);
         }

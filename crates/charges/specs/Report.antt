@@ -1,9 +1,11 @@
 -- What the calls give for any bytes: the figures of an accepted book, by an accepted table, or the refusal with all figures zero.
-use Rattle.std.specs.Prelude.{ℕ, ◌+◌, cond, List, ltb, eqb, length, replicate}
+use Rattle.std.specs.Prelude.{ℕ, ◌+◌, cond, List, Result, Ok, Err, ltb, eqb, length, replicate}
 use Rattle.book.specs.declared.Row.{Row}
-use Rattle.book.specs.declared.Refusal.{Refusal}
 use Rattle.book.specs.Legs.{legs_of, of_class}
+use Rattle.book.specs.declared.Refusal.{Refusal}
 use Rattle.book.specs.Refusals.{last_group, refused, refusal_of}
+use Rattle.book.specs.declared.reasons.Refused.{Refused}
+use Rattle.book.specs.Reasons.{told}
 use Rattle.ladder.specs.declared.InterestFigures.{InterestFigures}
 use Rattle.ladder.specs.declared.CommodityFigures.{CommodityFigures}
 use Rattle.ladder.specs.declared.zones.Matches.{Matches}
@@ -11,8 +13,6 @@ use Rattle.ladder.specs.declared.Table.{Table}
 use Rattle.table.specs.Loaded.{table_refusal, table_of}
 use Rattle.charges.specs.Charges.{Risk, specific_charge, interest_general, interest_figures_of, commodity_figures_of, interest_risk, equity_risk, exchange_general, commodity_general, by_currency}
 pub use Rattle.charges.specs.declared.Report.{Report}
-pub use Rattle.charges.specs.declared.InterestLadder.{InterestLadder}
-pub use Rattle.charges.specs.declared.CommodityLadder.{CommodityLadder}
 
 -- the rows of a class of a book (document 01, The book file)
 abbrev pub class_rows : List ℕ → ℕ → List Row
@@ -95,6 +95,27 @@ no_interest = record { matches = no_matches; charge = 0 }
 -- of a commodity (document 01, Who is told no, and why)
 abbrev pub no_commodity : CommodityFigures
 no_commodity = record { matches = 0; carried = 0; residual = 0; charge = 0 }
+
+-- a refusal, and the ladder of a currency or of a commodity: its figures all zero where it is refused (document 01, Who is told no, and why)
+pub record InterestLadder : Type 0 where
+  pub refusal : Refusal
+  pub figures : InterestFigures
+
+pub record CommodityLadder : Type 0 where
+  pub refusal : Refusal
+  pub figures : CommodityFigures
+
+-- an answer's figures, or none where it is refused
+unfoldable pub figures_or : {A : Type 0} → A → Result A Refused → A
+figures_or none (Ok figures) = figures
+figures_or none (Err _) = none
+
+-- the answers of the calls in numbers (document 01, Who is told no, and why)
+unfoldable pub interest_answer : Result InterestFigures Refused → InterestLadder
+interest_answer r = record { refusal = told r; figures = figures_or no_interest r }
+
+unfoldable pub commodity_answer : Result CommodityFigures Refused → CommodityLadder
+commodity_answer r = record { refusal = told r; figures = figures_or no_commodity r }
 
 -- the interest ladder of a currency, in weighted positions, by a table (document 01, Interest: bands and zones; P10)
 unfoldable pub interest_ladder_of : (table s : List ℕ) → ℕ → InterestLadder

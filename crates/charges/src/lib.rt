@@ -11,13 +11,18 @@ mod slots;
 pub mod tables;
 mod weights;
 
-ghost use Rattle.std.specs.Prelude.{◌≡◌, ◌+◌, ◌≤◌};
-ghost use Rattle.charges.specs.Report.{report_of, interest_ladder_of, commodity_ladder_of};
-ghost use Rattle.charges.specs.SmallBank.{small_with, small_bank_of};
-ghost use Rattle.charges.specs.Inner.Answers.{most_total, LadderRead, LadderSumsOf};
+ghost use Rattle.std.specs.Prelude.{◌≡◌, ◌≤◌, ◌<◌, IfOk, MatchResult};
+ghost use Rattle.book.specs.declared.reasons.Reason.TheVariants.{LadderGroup};
+ghost use Rattle.book.specs.Reasons.{told};
+ghost use Rattle.book.specs.Refusals.{last_group, refusal_of};
+ghost use Rattle.charges.specs.Report.{report_of, ladder_refusal, interest_ladder_of, interest_answer, commodity_ladder_of, commodity_answer};
+ghost use Rattle.charges.specs.SmallBank.{small_bank_of, small_answer};
+ghost use Rattle.charges.specs.Inner.Answers.{reported, SumsGiven};
 
-use crate::slots::{GROUP_SLOTS, GROUPS, SLOTS};
-use book::{Checked, LAST_GROUP, Refusal};
+use crate::adding::Sums;
+use crate::slots::GROUPS;
+use book::{LAST_GROUP, Reason, Refusal, Refused};
+use ladder::positions::Position;
 use ladder::{BANDS, CommodityFigures, InterestFigures};
 
 // The two parts of a class's charge.
@@ -27,8 +32,9 @@ pub struct Risk {
     pub general: u64,
 }
 
-// The report of a book, in mils, how many rows were taken for it, and the specific and the general interest charge of each currency; all zero
-// but the refusal where it is refused.
+// The report of a book, in mils, how many rows were taken for it, and the specific and the general
+// interest charge of each currency; all zero but the refusal where it is refused.
+// A struct with its refusal and no Result: document 01 and the C call have the report so.
 #[derive(Clone, Copy)]
 pub struct Report {
     pub refusal: Refusal,
@@ -42,154 +48,87 @@ pub struct Report {
     pub generals: [u64; GROUPS],
 }
 
-// The interest ladder of one currency, in weighted positions, and its charge in mils.
-#[derive(Clone, Copy)]
-pub struct InterestLadder {
-    pub refusal: Refusal,
-    pub figures: InterestFigures,
-}
-
-// The ladder of one commodity, in amount units, and its charge in mils.
-#[derive(Clone, Copy)]
-pub struct CommodityLadder {
-    pub refusal: Refusal,
-    pub figures: CommodityFigures,
-}
-
-// The sums of one group of a class for its ladder, longs and shorts by band; all zero but the refusal where it is refused.
-#[derive(Clone, Copy)]
-pub struct LadderSums {
-    pub refusal: Refusal,
-    pub longs: [u64; BANDS],
-    pub shorts: [u64; BANDS],
-}
-
-// The figures of a bank with foreign exchange and commodities alone, in mils; all zero but the refusal where it is refused.
+// The figures of a bank with foreign exchange and commodities alone, in mils.
 #[derive(Clone, Copy)]
 pub struct SmallBank {
-    pub refusal: Refusal,
     pub exchange: u64,
     pub commodity: u64,
     pub total: u64,
 }
 
-// The report of a book, in one pass over its rows: its six charges and their total, or why it is refused.
+// The report of a book, in one pass over its rows: its six charges and their total, or why it is
+// refused.
+#[tactic(auto, unfolding(crate::specs::Inner::Answers::reported))]
 pub fn charge(book: &[u8], table: &[u8]) -> Report
     ensures { result ≡ report_of table.now book.now }
 {
-    let loaded = table::load(table);
-    if loaded.number != 0 {
-        return reports::refused_report(book::refused(loaded.number, 0));
+    match charged(book, table) {
+        Ok(report) => report,
+        Err(refused) => reports::refused_report(Refusal::from(refused)),
     }
-    let by = loaded.table;
-    reports::charge_by(book, by)
 }
 
-// The interest ladder of a currency, or why there is none.
-pub fn interest_ladder(book: &[u8], table: &[u8], group: usize) -> InterestLadder
-    ensures { result ≡ interest_ladder_of table.now book.now group }
+// The report of an accepted book by an accepted table, which is looked at first.
+fn charged(book: &[u8], table: &[u8]) -> Result<Report, Refused>
+    ensures { reported result ≡ report_of table.now book.now }
 {
-    let read = table::load(table);
-    let sums = ladder_sums(book, 1, read.number, group);
-    let refusal = sums.refusal;
-    if refusal.number != 0 {
-        return InterestLadder {
-            refusal,
-            figures: ladders::no_interest(),
-        };
-    }
-    let by = read.table;
-    let weights = by.weights;
-    let percents = by.percents;
-    let longs = sums.longs;
-    let shorts = sums.shorts;
-    InterestLadder {
-        refusal,
-        figures: general::interest_figures(&longs, &shorts, 0, &weights, percents),
-    }
+    reports::charge_by(book, table::load(table)?)
 }
 
-// The ladder of a commodity, or why there is none.
-pub fn commodity_ladder(book: &[u8], group: usize) -> CommodityLadder
-    ensures { result ≡ commodity_ladder_of book.now group }
+// The interest ladder of a currency, or why there is none: a wrong group, the table, or the book.
+pub fn interest_ladder(book: &[u8], table: &[u8], group: usize) -> Result<InterestFigures, Refused>
+    ensures { interest_answer result ≡ interest_ladder_of table.now book.now group }
 {
-    let sums = ladder_sums(book, 4, 0, group);
-    let refusal = sums.refusal;
-    if refusal.number != 0 {
-        return CommodityLadder {
-            refusal,
-            figures: ladders::no_commodity(),
-        };
-    }
-    let longs = sums.longs;
-    let shorts = sums.shorts;
-    CommodityLadder {
-        refusal,
-        figures: general::commodity_figures(&longs, &shorts, 0),
-    }
+    ladder_group(group)?; // 10 comes before a table's own reasons
+    let by = table::load(table)?;
+    let positions = ladder_sums(book, 1, group)?;
+    Ok(general::interest_figures(&positions, 0, &by))
 }
 
-// The sums of a group of a class, or why there are none: a wrong group, a number that comes before the book, or the book's own refusal.
-pub fn ladder_sums(book: &[u8], class: usize, wrong: u8, group: usize) -> LadderSums
+// The ladder of a commodity, or why there is none: a wrong group, or the book.
+pub fn commodity_ladder(book: &[u8], group: usize) -> Result<CommodityFigures, Refused>
+    ensures { commodity_answer result ≡ commodity_ladder_of book.now group }
+{
+    let positions = ladder_sums(book, 4, group)?;
+    Ok(general::commodity_figures(&positions, 0))
+}
+
+// A group of a class, or 10: what a ladder call looks at first.
+pub fn ladder_group(group: usize) -> Result<(), Reason>
+    ensures { MatchResult result (λ _. group ≤ last_group) (λ reason. (reason ≡ LadderGroup) × (last_group < group)) }
+{
+    if usize::from(LAST_GROUP) < group {
+        return Err(Reason::LadderGroup);
+    }
+    Ok(())
+}
+
+// The positions of a group of a class by band, or why there are none: a wrong group, or the book's
+// own refusal.
+pub fn ladder_sums(book: &[u8], class: usize, group: usize) -> Result<[Position; BANDS], Refused>
     requires { (1 ≤ class) × (class ≤ 4) }
-    ensures { LadderSumsOf book.now class wrong group result }
+    ensures refusal { told result ≡ ladder_refusal (refusal_of book.now) group }
+    ensures given { IfOk result (λ positions. SumsGiven book.now class group positions) }
 {
-    let checked = ladder_checked(book, wrong, group);
-    let refusal = checked.refusal;
-    let counts = checked.counts;
-    let mut longs = [0u64; BANDS];
-    let mut shorts = [0u64; BANDS];
-    if refusal.number == 0 {
-        let part = book::body(book, counts, class);
-        ladders::tally(part, class, group, &mut longs, &mut shorts);
-    }
-    LadderSums {
-        refusal,
-        longs,
-        shorts,
-    }
+    ladder_group(group)?;
+    let read = book::read(book)?;
+    let part = read.body(class);
+    Ok(ladders::tally(part, class, group))
 }
 
-// The figures of a bank with foreign exchange and commodities alone, in one pass over its rows, or why its book is refused.
-pub fn small_bank(book: &[u8]) -> SmallBank
-    ensures { result ≡ small_bank_of book.now }
+// The figures of a bank with foreign exchange and commodities alone, in one pass over its rows, or
+// why its book is refused.
+pub fn small_bank(book: &[u8]) -> Result<SmallBank, Refused>
+    ensures { small_answer result ≡ small_bank_of book.now }
 {
-    let mut longs = [0u64; SLOTS];
-    let mut shorts = [0u64; SLOTS];
-    let mut specifics = [0u64; GROUP_SLOTS];
-    let mut rows = [0u16; GROUP_SLOTS];
-    let taken = pass::take_small_book(book, &mut longs, &mut shorts, &mut specifics, &mut rows);
-    let refusal = taken.refusal;
-    if refusal.number != 0 {
-        return small_with(refusal, 0, 0);
-    }
-    let exchange = general::exchange_general(&longs, &shorts);
-    let commodity = general::commodity_simplified(&longs, &shorts);
-    small_with(refusal, exchange, commodity)
-}
-
-// Two charges and their total.
-fn small_with(refusal: Refusal, exchange: u64, commodity: u64) -> SmallBank
-    requires { exchange + commodity ≤ most_total }
-    ensures { result ≡ small_with refusal exchange commodity }
-{
-    SmallBank {
-        refusal,
+    let counts = pass::check_small(book)?;
+    let mut sums = Sums::clear();
+    pass::take_rows(book, counts, &mut sums)?;
+    let exchange = general::exchange_general(&sums);
+    let commodity = general::commodity_simplified(&sums);
+    Ok(SmallBank {
         exchange,
         commodity,
         total: exchange + commodity,
-    }
-}
-
-// What a ladder call reads: a wrong group is refused with 10, then a table by its number, before the book is looked at.
-fn ladder_checked(book: &[u8], wrong: u8, group: usize) -> Checked
-    ensures { LadderRead book.now wrong group result }
-{
-    if (LAST_GROUP as usize) < group {
-        return book::checked_with(book::refused(10, 0), book::no_counts());
-    }
-    if wrong != 0 {
-        return book::checked_with(book::refused(wrong, 0), book::no_counts());
-    }
-    book::read(book)
+    })
 }

@@ -1,166 +1,76 @@
-// One pass over the rows of a book: each is decoded once, and refused or added to the sums there and then.
-ghost use Rattle.std.specs.Prelude.{◌≡◌, ◌≤◌};
+// One pass over the rows of a book: each is decoded once, and refused or added to the sums there.
+ghost use Rattle.std.specs.Prelude.{◌≡◌, ◌≤◌, IfOk};
 ghost use Rattle.book.specs.Counts.{counts_of};
 ghost use Rattle.book.specs.Legs.{legs_of};
-ghost use Rattle.book.specs.Refusals.{contents_refusal, first_refusal, refusal_of};
+ghost use Rattle.book.specs.Reasons.{number_in};
+ghost use Rattle.book.specs.Refusals.{first_refusal};
 ghost use Rattle.book.specs.Inner.Reading.{Sized};
-ghost use Rattle.charges.specs.SmallBank.{small_number, small_refusal};
-ghost use Rattle.charges.specs.Inner.Columns.{columns as all_columns};
+ghost use Rattle.charges.specs.SmallBank.{small_number};
 ghost use Rattle.charges.specs.Inner.Slots.{leg_with, Clear, Room};
-ghost use Rattle.charges.specs.Inner.Pass.{refused_at, refusal_after, Took, PassOf};
+ghost use Rattle.charges.specs.Inner.Pass.{Took, PassOf};
 
-use crate::slots::{GROUP_SLOTS, SLOTS};
-use crate::{adding, bands};
-use book::{CONTENTS_SIZE, Counts, ROW_SIZE, Refusal, Row};
+use crate::adding::Sums;
+use book::{CONTENTS_SIZE, Counts, ROW_SIZE, Reason, Refused, Row};
 
-// What a pass found: the first refusal, and the rows taken, none where there is one.
-#[derive(Clone, Copy)]
-pub struct Taken {
-    pub refusal: Refusal,
-    pub rows: usize,
-}
-
-// Takes the rows of a book into tables of zeros, or gives why it is refused: 1, 2, 3, then the first bad row.
-pub fn take_book(
-    book: &[u8],
-    longs: &mut [u64; SLOTS],
-    shorts: &mut [u64; SLOTS],
-    specifics: &mut [u64; GROUP_SLOTS],
-    rows: &mut [u16; GROUP_SLOTS],
-) -> Taken
-    requires { Clear longs.old shorts.old specifics.old rows.old }
-    ensures { PassOf (refusal_of book.now) (legs_of book.now) result longs.new shorts.new specifics.new rows.new }
+// The counts of a book of foreign exchange and commodities alone, or the first reason, 1, 2, 3 or
+// 20, against it that comes before its rows.
+pub fn check_small(book: &[u8]) -> Result<Counts, Reason>
+    ensures number { number_in result ≡ small_number book.now }
+    ensures counts { IfOk result (λ counts. counts ≡ counts_of book.now) }
 {
-    let wrong = book::contents::contents_refusal(book);
-    take_after(book, wrong, longs, shorts, specifics, rows)
-}
-
-// Takes the rows of a book of foreign exchange and commodities alone, or gives why it is refused: 1, 2, 3, 20, then the first bad row.
-pub fn take_small_book(
-    book: &[u8],
-    longs: &mut [u64; SLOTS],
-    shorts: &mut [u64; SLOTS],
-    specifics: &mut [u64; GROUP_SLOTS],
-    rows: &mut [u16; GROUP_SLOTS],
-) -> Taken
-    requires { Clear longs.old shorts.old specifics.old rows.old }
-    ensures { PassOf (small_refusal book.now) (legs_of book.now) result longs.new shorts.new specifics.new rows.new }
-{
-    let wrong = small_number(book);
-    take_after(book, wrong, longs, shorts, specifics, rows)
-}
-
-// What is refused before the rows: 1, 2, 3, or 20 where there are rows of interest or equity.
-fn small_number(book: &[u8]) -> u8
-    ensures { result ≡ small_number book.now }
-{
-    let contents = book::contents::contents_refusal(book);
-    if contents != 0 {
-        return contents;
+    let counts = book::contents::check(book)?;
+    if counts.interest != 0 || counts.equity != 0 {
+        return Err(Reason::SmallBank);
     }
-    let counts = book::contents::counts(book);
-    if (counts.interest as usize) + (counts.equity as usize) != 0 {
-        20
-    } else {
-        0
-    }
+    Ok(counts)
 }
 
-// Takes the rows of a book, unless a number refuses it before them; where none does, its contents passed.
-fn take_after(
-    book: &[u8],
-    wrong: u8,
-    longs: &mut [u64; SLOTS],
-    shorts: &mut [u64; SLOTS],
-    specifics: &mut [u64; GROUP_SLOTS],
-    rows: &mut [u16; GROUP_SLOTS],
-) -> Taken
-    requires book_value { wrong ≡ 0 → contents_refusal book.now ≡ 0 }
-    requires clear { Clear longs.old shorts.old specifics.old rows.old }
-    ensures { PassOf (refusal_after wrong (legs_of book.now)) (legs_of book.now) result longs.new shorts.new specifics.new rows.new }
-{
-    if wrong != 0 {
-        return refused_at(wrong, 0);
-    }
-    let counts = book::contents::counts(book);
-    take_rows(book, counts, longs, shorts, specifics, rows)
-}
-
-// Takes the rows of a book whose contents passed, in file order: the pass over the classes and their rows leaves with the refusal of the
-// first bad row and with its number. The class is written out in each case, so that each has code of its own.
-fn take_rows(
-    book: &[u8],
-    counts: Counts,
-    longs: &mut [u64; SLOTS],
-    shorts: &mut [u64; SLOTS],
-    specifics: &mut [u64; GROUP_SLOTS],
-    rows: &mut [u16; GROUP_SLOTS],
-) -> Taken
+// Takes the rows of a book whose contents passed, in file order, and gives how many they are: the
+// pass over the classes and their rows leaves with the reason against the first bad row and its
+// number. The class is written out in each case, so that each has code of its own.
+pub fn take_rows(book: &[u8], counts: Counts, sums: &mut Sums) -> Result<usize, Refused>
     requires counts_value { (counts ≡ counts_of book.now) × Sized book.now }
-    requires clear { Clear longs.old shorts.old specifics.old rows.old }
-    ensures { PassOf (first_refusal 0 (legs_of book.now)) (legs_of book.now) result longs.new shorts.new specifics.new rows.new }
+    requires clear { Clear sums.old }
+    ensures { PassOf (first_refusal 0 (legs_of book.now)) (legs_of book.now) result sums.new }
 {
-    let columns = bands::COLUMNS;
-    let mut class: usize = 1;
-    let mut taken: usize = 0;
-    'pass: loop {
-        if 4 < class {
-            break 'pass Taken {
-                refusal: book::refused(0, 0),
-                rows: taken,
-            };
-        }
-        let end = taken + (counts.class_rows(class) as usize);
-        while taken < end {
-            let row = book::rows::row_from(book, CONTENTS_SIZE + ROW_SIZE * taken);
-            let number = match class {
-                1 => take_row(1, row, &columns, longs, shorts, specifics, rows),
-                2 => take_row(2, row, &columns, longs, shorts, specifics, rows),
-                3 => take_row(3, row, &columns, longs, shorts, specifics, rows),
-                _ => take_row(4, row, &columns, longs, shorts, specifics, rows),
-            };
-            if number != 0 {
-                break 'pass refused_at(number, taken as u16);
+    let mut taken = 0;
+    'pass: {
+        for class in 1..=4 {
+            let end = taken + usize::from(counts.class_rows(class));
+            for at in taken..end {
+                let row = book::rows::row_from(book, CONTENTS_SIZE + ROW_SIZE * at);
+                let took = match class {
+                    1 => take_row(1, row, sums),
+                    2 => take_row(2, row, sums),
+                    3 => take_row(3, row, sums),
+                    _ => take_row(4, row, sums),
+                };
+                if let Err(reason) = took {
+                    // A cast, proved to lose nothing: try_from would add a case that never is.
+                    break 'pass Err(reason.at_row(at as u16));
+                }
             }
-            taken += 1;
+            taken = end;
         }
-        class += 1;
-    }
-}
-
-// A refusal at a row: no row counts as taken.
-fn refused_at(number: u8, row: u16) -> Taken
-    ensures { result ≡ refused_at number row }
-{
-    Taken {
-        refusal: book::refused(number, row),
-        rows: 0,
+        Ok(taken)
     }
 }
 
 // Refuses a row of a class, or adds it to the sums.
-fn take_row(
-    class: usize,
-    row: Row,
-    columns: &[u16; bands::PLACES],
-    longs: &mut [u64; SLOTS],
-    shorts: &mut [u64; SLOTS],
-    specifics: &mut [u64; GROUP_SLOTS],
-    rows: &mut [u16; GROUP_SLOTS],
-) -> u8
-    requires le_class { (1 ≤ class) × (class ≤ 4) × (columns.now ≡ all_columns) }
-    requires room { Room longs.old shorts.old specifics.old rows.old }
-    ensures { Took (leg_with class row) result longs.old shorts.old specifics.old rows.old longs.new shorts.new specifics.new rows.new }
+// The class is a number, as the file and the definitions have it.
+#[inline(always)]
+#[tactic(auto, using(crate::proofs::Progress::took_one), unfolding(book::specs::Reasons::number_in))]
+fn take_row(class: usize, row: Row, sums: &mut Sums) -> Result<(), Reason>
+    requires le_class { (1 ≤ class) × (class ≤ 4) }
+    requires room { Room sums.old }
+    ensures { Took (leg_with class row) (number_in result) sums.old sums.new }
 {
-    let bad = book::limits::row_refusal(class, row);
-    if bad != 0 {
-        return bad;
-    }
+    book::limits::check_row(class, row)?;
     match class {
-        1 => adding::add_interest(row, columns, longs, shorts, specifics, rows),
-        2 => adding::add_equity(row, longs, shorts, specifics),
-        3 => adding::add_exchange(row, longs, shorts),
-        _ => adding::add_commodity(row, columns, longs, shorts, rows),
+        1 => sums.add_interest(row),
+        2 => sums.add_equity(row),
+        3 => sums.add_exchange(row),
+        _ => sums.add_commodity(row),
     }
-    0
+    Ok(())
 }

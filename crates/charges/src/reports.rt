@@ -1,75 +1,42 @@
 // The report of a book by a table that was loaded.
 ghost use Rattle.std.specs.Prelude.{◌≡◌, ◌+◌, ◌≤◌};
+ghost use Rattle.book.specs.Reasons.{told};
+ghost use Rattle.book.specs.Refusals.{refusal_of};
 ghost use Rattle.ladder.specs.Inner.Steps.{TableBounds};
-ghost use Rattle.charges.specs.Report.{report_with, refused_report};
-ghost use Rattle.charges.specs.Inner.Answers.{most_total, report_by};
+ghost use Rattle.charges.specs.Report.{refused_report};
+ghost use Rattle.charges.specs.Inner.Answers.{most_total, reported, report_by};
 
-use crate::slots::{GROUP_SLOTS, GROUPS, SLOTS};
+use crate::adding::Sums;
+use crate::slots::GROUPS;
 use crate::{Report, Risk, general, pass, tables};
-use book::Refusal;
+use book::{Refusal, Refused};
 use ladder::Table;
 
 // In one pass over the rows: the six charges and their total, or why the book is refused.
-pub fn charge_by(book: &[u8], table: Table) -> Report
+pub fn charge_by(book: &[u8], table: Table) -> Result<Report, Refused>
     requires { TableBounds table }
-    ensures { result ≡ report_by table book.now }
+    ensures report { reported result ≡ report_by table book.now }
+    ensures refusal { told result ≡ refusal_of book.now }
 {
-    let weights = table.weights;
-    let percents = table.percents;
-    let mut longs = [0u64; SLOTS];
-    let mut shorts = [0u64; SLOTS];
-    let mut specifics = [0u64; GROUP_SLOTS];
-    let mut rows = [0u16; GROUP_SLOTS];
-    let taken = pass::take_book(book, &mut longs, &mut shorts, &mut specifics, &mut rows);
-    let refused = taken.refusal;
-    if refused.number != 0 {
-        return refused_report(refused);
-    }
-    let interest_specifics = tables::group_list(&specifics, 0);
-    let interest_generals = general::interest_generals(&longs, &shorts, &rows, &weights, percents);
-    let equity_specifics = tables::group_list(&specifics, GROUPS);
+    let counts = book::contents::check(book)?;
+    let mut sums = Sums::clear();
+    let taken = pass::take_rows(book, counts, &mut sums)?;
+    let specifics = tables::group_list(&sums.specifics, 0);
+    let generals = general::interest_generals(&sums, &table);
+    let equity_specifics = tables::group_list(&sums.specifics, GROUPS);
     let interest = Risk {
-        specific: tables::group_total(interest_specifics),
-        general: tables::group_total(interest_generals),
+        specific: tables::group_total(specifics),
+        general: tables::group_total(generals),
     };
     let equity = Risk {
         specific: tables::group_total(equity_specifics),
-        general: general::equity_general(&longs, &shorts),
+        general: general::equity_general(&sums),
     };
-    let exchange = general::exchange_general(&longs, &shorts);
-    let commodity = general::commodity_general(&longs, &shorts, &rows);
-    charged_report(
-        interest,
-        equity,
-        exchange,
-        commodity,
-        taken.rows,
-        interest_specifics,
-        interest_generals,
-    )
-}
-
-// The report of six charges.
-fn charged_report(
-    interest: Risk,
-    equity: Risk,
-    exchange: u64,
-    commodity: u64,
-    taken: usize,
-    specifics: [u64; GROUPS],
-    generals: [u64; GROUPS],
-) -> Report
-    requires { interest.specific + interest.general + equity.specific + equity.general + exchange + commodity ≤ most_total }
-    ensures { result ≡ report_with interest equity exchange commodity taken specifics generals }
-{
-    let total = interest.specific
-        + interest.general
-        + equity.specific
-        + equity.general
-        + exchange
-        + commodity;
-    Report {
-        refusal: book::refused(0, 0),
+    let exchange = general::exchange_general(&sums);
+    let commodity = general::commodity_general(&sums);
+    let total = total(interest, equity, exchange, commodity);
+    Ok(Report {
+        refusal: Refusal::default(),
         interest,
         equity,
         exchange,
@@ -78,7 +45,15 @@ fn charged_report(
         taken,
         specifics,
         generals,
-    }
+    })
+}
+
+// What the six charges come to.
+fn total(interest: Risk, equity: Risk, exchange: u64, commodity: u64) -> u64
+    requires { interest.specific + interest.general + equity.specific + equity.general + exchange + commodity ≤ most_total }
+    ensures { result ≡ interest.specific + interest.general + equity.specific + equity.general + exchange + commodity }
+{
+    interest.specific + interest.general + equity.specific + equity.general + exchange + commodity
 }
 
 // The report of a refusal.

@@ -3,6 +3,7 @@ use book::LAST_GROUP;
 use ladder::{BANDS, COMMODITY_BANDS};
 
 // The groups of a class, 0 to the last.
+// A cast, since a constant calls no function.
 pub const GROUPS: usize = LAST_GROUP as usize + 1;
 
 // The first slot of commodities, of equity and of foreign exchange, and how many slots there are.

@@ -9,6 +9,7 @@ use book::Row;
 const BASIS_POINT: u64 = 100;
 
 // Qualifying paper, by its days.
+#[tactic(auto, unfolding(crate::specs::Weights::qualifying_weight))]
 fn qualifying_weight(days: u16) -> u64
     ensures { result ≡ qualifying_weight days }
 {
@@ -40,10 +41,11 @@ fn maturity(row: Row) -> u16
 fn is_qualifying(kind: u8) -> bool
     ensures { result ≡ (eqb kind 2 || eqb kind 4) }
 {
-    kind == 2 || kind == 4
+    matches!(kind, 2 | 4)
 }
 
 // Government, qualifying and other paper, and floating-rate notes. Both weights are found before one is chosen: so no branch depends on the kind.
+#[tactic(auto, unfolding(crate::specs::Weights::interest_weight))]
 fn interest_weight(row: Row) -> u64
     ensures { result ≡ interest_weight row }
 {
@@ -57,11 +59,11 @@ fn interest_weight(row: Row) -> u64
 }
 
 // Ordinary shares, liquid and well diversified portfolios, indices.
+#[tactic(auto, unfolding(crate::specs::Weights::equity_weight))]
 fn equity_weight(row: Row) -> u64
     ensures { result ≡ equity_weight row }
 {
-    let kind = row.kind;
-    match kind {
+    match row.kind {
         1 => 800,
         2 => 400,
         3 => 200,
@@ -70,6 +72,7 @@ fn equity_weight(row: Row) -> u64
 }
 
 // The specific weight of a row of a class; foreign exchange and commodities bear none.
+#[tactic(auto, unfolding(crate::specs::Weights::specific_weight))]
 fn specific_weight(class: usize, row: Row) -> u64
     ensures { result ≡ specific_weight class row }
 {
@@ -81,8 +84,9 @@ fn specific_weight(class: usize, row: Row) -> u64
 }
 
 // The specific charge of a row of a class, in mils: 100 a basis point.
+#[tactic(auto, using(crate::proofs::Legs::weight_within), unfolding(crate::specs::Charges::specific_of))]
 pub fn specific_charge(class: usize, row: Row) -> u64
     ensures { result ≡ specific_of class row }
 {
-    BASIS_POINT * (specific_weight(class, row) * ((row.long as u64) + (row.short as u64)))
+    BASIS_POINT * (specific_weight(class, row) * (u64::from(row.long) + u64::from(row.short)))
 }

@@ -20,8 +20,7 @@ use Rattle.sums.proofs.Cases.{cond_same}
 use Rattle.table.specs.Loaded.{table_refusal, table_of}
 use Rattle.charges.specs.Charges.{reading, interest_figures_of}
 use Rattle.charges.specs.Report.{class_rows, before, ladder_refusal, interest_ladder_of}
-use Rattle.trade.specs.declared.Least.{Least}
-use Rattle.trade.specs.Trade.{on_side, charge_with, most_trade, least_within, place_refusal, trade_refusal, least_trade_of}
+use Rattle.trade.specs.Trade.{Least, on_side, charge_with, most_trade, least_within, place_refusal, trade_refusal, least_trade_of}
 use Rattle.trade.proofs.Searching.{FoundFrom, found_from}
 use Rattle.claims.specs.Trade.{charge_at, LeastAmount, LeastTradeHolds, NothingAddedHolds}
 

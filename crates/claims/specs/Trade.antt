@@ -8,8 +8,7 @@ use Rattle.layout.specs.Files.{book_by}
 use Rattle.table.specs.Loaded.{table_of}
 use Rattle.charges.specs.Bands.{low_column, interest_band}
 use Rattle.charges.specs.Report.{class_rows, interest_ladder_of}
-use Rattle.trade.specs.declared.Least.{Least}
-use Rattle.trade.specs.Trade.{on_side, most_trade, last_band, charge_with, trade_refusal, least_trade_of}
+use Rattle.trade.specs.Trade.{Least, on_side, most_trade, last_band, charge_with, trade_refusal, least_trade_of}
 
 -- the currency's charge by the lent table when an amount is added to the side of the band (P13)
 abbrev pub charge_at : (table s : List ℕ) → (group band side : ℕ) → ℕ → ℕ

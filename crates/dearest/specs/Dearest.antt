@@ -1,13 +1,15 @@
 -- The dearest book of so many rows of at most an amount each (P14): what is written, who is told no, and the output afterwards.
-use Rattle.std.specs.Prelude.{ℕ, cond, ◌||◌, List, ltb, eqb, length, replicate}
+use Rattle.std.specs.Prelude.{ℕ, cond, ◌||◌, List, ltb, eqb, length, replicate, Result}
 use Rattle.book.specs.declared.Row.{Row}
 use Rattle.book.specs.declared.Refusal.{Refusal}
 use Rattle.book.specs.Refusals.{most_rows, most_amount, refused}
+use Rattle.book.specs.declared.reasons.Refused.{Refused}
+use Rattle.book.specs.Reasons.{told, figure_in}
 use Rattle.layout.specs.Files.{book_of}
 use Rattle.layout.specs.Room.{or_next, room_refusal, figure_of, output_of}
 use Rattle.table.specs.Loaded.{standard_bytes}
 use Rattle.charges.specs.Report.{report_of}
-pub use Rattle.dearest.specs.declared.Costed.{Costed}
+use Rattle.dearest.specs.declared.Costed.{Costed as Given}
 
 -- ---- what is written
 -- a row of which none of its amount costs more: other paper, long, of 36,000 days and without coupon (P14)
@@ -26,6 +28,22 @@ limits_refusal rows most = cond (ltb most_rows rows || (eqb most 0 || ltb most_a
 -- the refusal, into an output of so many bytes: 22, then 12 (P14)
 unfoldable pub dearest_refusal : (rows most room : ℕ) → Refusal
 dearest_refusal rows most room = or_next (limits_refusal rows most) (room_refusal (length (dearest_book rows most)) room)
+
+-- why the call is refused, all zero where it is not; the length of the book and its total, 0 where
+-- it is refused (P14)
+pub record Costed : Type 0 where
+  pub refusal : Refusal
+  pub length : ℕ
+  pub total : ℕ
+
+-- what the call's answer tells (P14)
+unfoldable pub dearest_answer : Result Given Refused → Costed
+dearest_answer answer =
+    record {
+      refusal = told answer;
+      length = figure_in (λ costed. costed.length) answer;
+      total = figure_in (λ costed. costed.total) answer;
+    }
 
 -- the answer: the refusal, the length of the book, and its total by document 01's table (P14)
 unfoldable pub dearest_of : (rows most room : ℕ) → Costed

@@ -1,22 +1,25 @@
 -- What a join gives and leaves in the output, refused and not refused.
 -- Assumes nothing.
-use mathlib.Core.Path.{◌≡◌, refl, sym, ap}
+use mathlib.Core.Path.{◌≡◌, refl, sym}
 use mathlib.Core.List.{List, flat_map}
-use Prim.Native.Nat.{ℕ, ◌+◌, ◌*◌, ◌≤◌}
+use Prim.Native.Nat.{ℕ, ◌+◌, ◌≤◌}
 use native.Mathlib.Omega.{arith}
 use lib.ListN.{length, take, length-append}
 use lib.Seq.{take_at}
 use borrow.Author.Tests.{ne_eqb}
+use Rattle.std.proofs.Common.{Result, Ok, Err}
+use Rattle.std.specs.Result.{IsErrAnd}
 use Rattle.book.specs.declared.Counts.{Counts}
-use Rattle.book.specs.declared.Refusal.{Refusal}
-use Rattle.book.specs.Counts.{contents_size, row_size, classes, count_of_rows}
+use Rattle.book.specs.declared.reasons.Refused.{Refused}
+use Rattle.book.specs.Counts.{contents_size, classes}
 use Rattle.book.specs.Refusals.{refused}
+use Rattle.book.specs.Reasons.{numbers_of, told, figure_in}
+use Rattle.book.proofs.Numbers.{some_told}
 use Rattle.layout.specs.Written.{written}
 use Rattle.layout.specs.Files.{contents_bytes, file_of}
-use Rattle.join.specs.Joined.{joined_counts, joined_body, joined, join_refusal, joined_of, join_output}
+use Rattle.join.specs.Joined.{joined_counts, joined_body, joined, join_refusal, joined_answer, joined_of, join_output}
 use Rattle.layout.proofs.Writing.{written_after}
 use Rattle.layout.proofs.Whole.{contents_length}
-use Rattle.join.proofs.JoinedBook.{joined_length}
 use Rattle.join.proofs.Settling.{Joins, not_refused}
 
 module _ (a b : List ℕ) where
@@ -26,10 +29,15 @@ module _ (a b : List ℕ) where
 
   module _ (out : List ℕ) where
     -- refused: no length, and the output as it was
-    pub refused-outcome : (r : Refusal) → r ≡ join_refusal a b (length out) → (r.number ≡ 0 → ⊥)
-        → (record { refusal = r; length = 0 } ≡ joined_of a b (length out)) × (out ≡ join_output a b out)
-    unfolding joined_of join_output
-    refused-outcome r e bad = (simp (← e, ne_eqb _ _ bad), simp (← e, ne_eqb _ _ bad))
+    module _ (r : Refused) (is : numbers_of r ≡ join_refusal a b (length out)) where
+      pub refused-answer : (answer : Result ℕ Refused) → IsErrAnd answer (λ y. y ≡ r) → joined_answer answer ≡ joined_of a b (length out)
+      unfolding joined_answer joined_of told figure_in
+      refused-answer (Ok length) e = absurd e
+      refused-answer (Err own) e = rw (e, ← is, ne_eqb _ _ (some_told r refl))
+
+      pub refused-output : out ≡ join_output a b out
+      unfolding join_output
+      refused-output = rw (← is, ne_eqb _ _ (some_told r refl))
 
     -- the bodies written after the contents make the joined book
     book_written : length (joined a b) ≤ length out
@@ -51,13 +59,14 @@ module _ (a b : List ℕ) where
       joined-output = simp (not_refused a b (length out) ok)
 
       -- not refused: the joined length, and the contents and the bodies written
-      pub joined-outcome : (r : Refusal) (counts : Counts) (rows : ℕ) (out' out'' : List ℕ)
-          → r ≡ join_refusal a b (length out) → counts ≡ joined_counts a b → rows ≡ count_of_rows counts
+      pub accepted-answer : (size : ℕ) → size ≡ length (joined a b) → joined_answer (Ok size) ≡ joined_of a b (length out)
+      unfolding joined_answer told figure_in
+      accepted-answer size is = rw is (sym joined-answer)
+
+      pub accepted-output : (counts : Counts) (out' out'' : List ℕ) → counts ≡ joined_counts a b
           → out' ≡ written out 0 (contents_bytes counts) → out'' ≡ written out' contents_size (flat_map (joined_body a b) classes)
-          → (record { refusal = r; length = contents_size + row_size * rows } ≡ joined_of a b (length out)) × (out'' ≡ join_output a b out)
-      joined-outcome r counts rows out' out'' e sum f g h =
-          let size : contents_size + row_size * rows ≡ length (joined a b) = omega (arith, ap count_of_rows sum, joined_length a b ok.first ok.second) in
-          (rw (e, not_refused a b (length out) ok, size) (sym joined-answer), rw (h, g, sum, book_written ok.fits) (sym joined-output))
+          → out'' ≡ join_output a b out
+      accepted-output counts out' out'' sum head tail = rw (tail, head, sum, book_written ok.fits) (sym joined-output)
 
       -- the bytes that join writes, up to the length that it gives
       pub written-book : take (joined_of a b (length out)).length (join_output a b out) ≡ joined a b

@@ -1,12 +1,13 @@
 -- The joined book: the counts added, each body of A followed by B's; who is told no; and the output afterwards.
-use Rattle.std.specs.Prelude.{ℕ, ◌+◌, cond, not, List, ◌++◌, length, ltb, eqb}
+use Rattle.std.specs.Prelude.{ℕ, ◌+◌, cond, not, List, ◌++◌, length, ltb, eqb, Result}
 use Rattle.book.specs.declared.Counts.{Counts}
 use Rattle.book.specs.declared.Refusal.{Refusal}
 use Rattle.book.specs.Counts.{counts_of, count_of_rows, body_of}
 use Rattle.book.specs.Refusals.{most_rows, refused, refusal_of}
+use Rattle.book.specs.declared.reasons.Refused.{Refused}
+use Rattle.book.specs.Reasons.{told, figure_in}
 use Rattle.layout.specs.Written.{written}
 use Rattle.layout.specs.Files.{file_of}
-pub use Rattle.join.specs.declared.Joined.{Joined}
 
 -- counts added class by class (document 01, Joining)
 unfoldable pub added_counts : Counts → Counts → Counts
@@ -45,6 +46,16 @@ settled first second rows size room =
 -- the refusal of a join into an output of so many bytes (document 01, Who is told no, and why)
 unfoldable pub join_refusal : List ℕ → List ℕ → ℕ → Refusal
 join_refusal a b room = settled (refusal_of a) (refusal_of b) (count_of_rows (joined_counts a b)) (length (joined a b)) room
+
+-- why a join is refused, all zero where it is not, and the joined length, 0 where it is refused
+-- (document 01, Joining)
+pub record Joined : Type 0 where
+  pub refusal : Refusal
+  pub length : ℕ
+
+-- what the call's answer tells (document 01, Joining)
+unfoldable pub joined_answer : Result ℕ Refused → Joined
+joined_answer answer = record { refusal = told answer; length = figure_in (λ size. size) answer }
 
 -- the answer of a join: its refusal and the joined length, 0 where it is refused (document 01, Joining)
 unfoldable pub joined_of : List ℕ → List ℕ → ℕ → Joined

@@ -1,18 +1,20 @@
 -- The ladders as the code makes them: band by band, and then whole.
 -- Assumes nothing.
-use Prim.Native.Nat.{ℕ, zero, suc, ◌+◌, ◌*◌, ◌≤◌, ◌<◌, max}
+use Prim.Native.Nat.{ℕ, zero, suc, ◌+◌, ◌-◌, ◌*◌, ◌≤◌, ◌<◌, max}
 use mathlib.Core.Path.{◌≡◌, refl, sym, ap, ap₂, ◌∙◌}
 use mathlib.Core.List.{List, ◌∷◌}
 use native.Mathlib.Nat.{zero-add}
 use native.Mathlib.Numerals.{add-one}
 use native.Mathlib.Omega.{arith}
+use lib.ListN.{get_or, take, drop}
+use lib.Seq.{get_or-take, get_or-drop}
 use Rattle.sums.specs.Sums.{span}
 use Rattle.ladder.specs.Position.{Position, Bands, ◌⊕◌, empty, gross, net, total, vertical, band_nets}
 use Rattle.ladder.specs.Table.{Percents, AcceptedPercents}
 use Rattle.ladder.specs.Interest.{Matches, InterestFigures, Zones, matches, match_sum, charge, all_bands, zones}
 use Rattle.ladder.specs.Commodity.{Carried, nothing, to_band, carry, carry_figures, commodity_bands}
 use Rattle.ladder.specs.Nets.{absolute_nets, shorthand}
-use Rattle.ladder.specs.Inner.Steps.{PositionStep, Zone, Gathered, NetStep, ZoneOf, ZoneWith, GatheredOf, Summed, InterestOf, CommodityOf, NetsOf, limit, commodity_limit, net_step, band_step, carried_step, zones_step, zone_of, zone_with, gathered_gross, gathered_figures, combined}
+use Rattle.ladder.specs.Inner.Steps.{bands, PositionStep, Zone, Gathered, NetStep, ZoneOf, ZoneWith, GatheredOf, Summed, InterestOf, CommodityOf, NetsOf, limit, commodity_limit, net_step, band_step, carried_step, zones_step, zone_of, zone_with, gathered_gross, gathered_figures, combined}
 use Rattle.ladder.proofs.Matching.{same_position, takes_matched, takes_gross}
 use Rattle.ladder.proofs.Across.{unopposed_net, crossing-adds_up}
 use Rattle.ladder.proofs.Totals.{total-last, vertical-last, fewer_within}
@@ -43,9 +45,9 @@ pub record GatheredTo (f : Bands) (start n : ℕ) (z : Zone) : Type 0 where
   pub is : z ≡ zone_of f (span start n)
   pub sums : 2 * z.vertical + gross z.nets ≡ z.gross
 
-pub gathered_none : (f : Bands) (start : ℕ) → GatheredTo f start 0 (record { gross = 0; vertical = 0; nets = empty })
+pub gathered_none : {f : Bands} {start n : ℕ} {z : Zone} → n ≡ 0 → z ≡ record { gross = 0; vertical = 0; nets = empty } → GatheredTo f start n z
 unfolding zone_of total vertical span
-gathered_none f start = record { is = refl; sums = refl }
+gathered_none none is = record { is = rw (none, is); sums = rw is }
 
 -- the first n bands and the next are within the gross of all
 pub gathered_room : {f : Bands} {start n : ℕ} {z : Zone} → GatheredTo f start n z → (many : ℕ) → n < many → gross (total f (span start many)) ≤ limit
@@ -59,21 +61,31 @@ pub zone_in_steps : (zone : Zone) (band : Position) {step : PositionStep} → 2 
 unfolding zone_with band_step
 zone_in_steps zone band sums made = record { is = rw made.is; sums = omega (arith, made.sums) }
 
-pub gathered_next : {f : Bands} {start n : ℕ} {z r : Zone} → GatheredTo f start n z → ZoneWith z (f (start + n)) r → GatheredTo f start (n + 1) r
+pub gathered_next : {f : Bands} {start n m band : ℕ} {position : Position} {z r : Zone} → GatheredTo f start n z → ZoneWith z position r → position ≡ f band
+    → band ≡ start + n → m ≡ suc n → GatheredTo f start m r
 unfolding zone_of zone_with
-gathered_next {f} {start} {n} so_far made =
+gathered_next {f} {start} {n} so_far made own here next =
     record {
       is =
-          rw (made.is, so_far.is, add-one, total-last f start n, vertical-last f start n, total-last (λ k. net (f k)) start n)
+          rw (made.is, so_far.is, own, here, next, total-last f start n, vertical-last f start n, total-last (λ k. net (f k)) start n)
           (same_zone (omega arith) refl refl);
       sums = made.sums;
     }
+
+-- a band of a part of an array
+pub part_is : (positions : List Position) (start many k : ℕ) → k < many
+    → get_or (take (start + many - start) (drop start positions)) k empty ≡ bands positions (start + k)
+part_is positions start many k h =
+    get_or-take (start + many - start) (drop start positions) k empty (omega arith)
+    ∙ get_or-drop start positions k empty
 
 pub gathered_all : {f : Bands} {start n many : ℕ} {z : Zone} → GatheredTo f start n z → n ≡ many → ZoneOf f (span start many) z
 unfolding zone_of
 gathered_all so_far all =
     let is = rw all at so_far.is in
     record { is = is; is_gross = rw is; is_nets = rw is; sums = so_far.sums }
+
+pub ruleset gathering = (gathered_none, gathered_room, gathered_all)
 
 -- ---- the three zones make the ladder
 pub matches-combined : (z : Zones) (f : Bands) {a b c : Zone} → a ≡ zone_of f z.first → b ≡ zone_of f z.second → c ≡ zone_of f z.third
@@ -137,13 +149,13 @@ module _ {f : Bands} {n : ℕ} {s : Carried} (so_far : Carries f n s) (within : 
       rw so_far.is
       (omega (arith, carry-gross f (span 0 n), fewer_within f 0 (suc n) 7 h, ap gross (total-last f 0 n), ap (λ (k : ℕ). gross (f k)) (zero-add n)))
 
-  pub carries_next : {step : PositionStep} → NetStep (s.position ⊕ f n) (carried_step s.position (f n)) step
+  pub carries_next : {band : Position} {step : PositionStep} → NetStep (s.position ⊕ band) (carried_step s.position band) step → band ≡ f n
       → Carries f (n + 1) (record { matches = s.matches + step.matched; carried = s.carried + gross s.position; position = step.left })
   unfolding to_band carried_step
-  carries_next made =
+  carries_next made own =
       record {
-        is = rw (made.is, so_far.is, add-one) (sym (carry-last nothing f n));
-        within = omega (arith, carries_room);
+        is = rw (made.is, own, so_far.is, add-one) (sym (carry-last nothing f n));
+        within = omega (arith, carries_room, ap gross own);
         carried≤ = omega arith;
       }
 
@@ -152,12 +164,14 @@ carries_all {f} so_far all =
     let is = rw all at so_far.is in
     record { is = ap carry_figures is; within = rw is (commodity-within f) }
 
+pub ruleset carrying = (carries_none, carries_room, carries_next, carries_all)
+
 -- ---- nets alone
 pub absolutes_in_steps : (f : Bands) (list : List ℕ) {nets : Position} → nets ≡ band_nets f list → NetsOf f list (absolute_nets list) (gross nets)
 absolutes_in_steps f list is = record { is = ap gross is; within = rw is (absolutes_within list f) }
 
-pub shorthand-in_steps : (f : Bands) (list : List ℕ) {nets : Position} {gold : PositionStep} {most : ℕ}
-    → nets ≡ band_nets f list → gold ≡ net_step (f 0) → most ≡ max nets.long nets.short → NetsOf f (0 ∷ list) (shorthand list) (most + gross gold.left)
+pub shorthand-in_steps : (f : Bands) (list : List ℕ) {nets own : Position} {gold : PositionStep} {most left : ℕ} → nets ≡ band_nets f list
+    → own ≡ f 0 → gold ≡ net_step own → most ≡ max nets.long nets.short → left ≡ gross gold.left → NetsOf f (0 ∷ list) (shorthand list) (most + left)
 unfolding net_step
-shorthand-in_steps f list is_nets is-gold is-most =
-    record { is = rw (is-most, is_nets, is-gold); within = rw (is-most, is_nets, is-gold) (shorthand-within list f) }
+shorthand-in_steps f list is_nets is_own is_gold is_most is_left =
+    record { is = rw (is_left, is_most, is_nets, is_gold, is_own); within = rw (is_left, is_most, is_nets, is_gold, is_own) (shorthand-within list f) }

@@ -13,7 +13,7 @@ pub mod Books
 pub mod Bounds
 pub mod Taking
 pub mod Turning
-pub mod Stepping
 pub mod Gathering
 pub mod OneBand
 pub mod Agreeing
+pub mod Arrays

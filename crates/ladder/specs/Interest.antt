@@ -4,12 +4,16 @@ use Rattle.sums.specs.Sums.{span}
 use Rattle.ladder.specs.Position.{Position, Bands, ◌⊕◌, gross, matched, net, absolute_net, total, vertical, band_nets}
 use Rattle.ladder.specs.Table.{Percents}
 pub use Rattle.ladder.specs.declared.zones.Ladder.{Ladder}
-pub use Rattle.ladder.specs.declared.zones.LadderStep.{LadderStep}
+use Rattle.ladder.specs.declared.positions.Step.{Step}
 pub use Rattle.ladder.specs.declared.zones.Crossing.{Crossing}
 pub use Rattle.ladder.specs.declared.zones.Matches.{Matches}
 pub use Rattle.ladder.specs.declared.InterestFigures.{InterestFigures}
 
 -- ---- zones against one another
+-- what a step leaves of the zones, and its match
+abbrev pub LadderStep : Type 0
+LadderStep = Step Ladder
+
 -- the longs of each against the shorts of the other (document 01, Interest: bands and zones, step 3)
 unfoldable pub against : Position → Position → ℕ
 against a b = min a.long b.short + min a.short b.long

@@ -7,7 +7,8 @@ ghost use Rattle.ladder.specs.Inner.Steps.{limit, bands, ZoneOf, ZoneWith};
 use crate::positions::Position;
 
 // The bands of a zone: their gross, what they match within themselves, and their nets put together.
-#[derive(Clone, Copy)]
+// That these add up stands in the contracts: as a ghost field, each definition would owe it.
+#[derive(Clone, Copy, Default)]
 pub struct Zone {
     pub gross: u64,
     pub vertical: u64,
@@ -16,41 +17,30 @@ pub struct Zone {
 
 impl Zone {
     // One band more: its longs against its shorts.
+    #[tactic(auto, unfolding(crate::specs::Inner::Steps::band_step, crate::specs::Inner::Steps::zone_with))]
     pub fn with_band(self, band: Position) -> Zone
         requires { (self.gross + gross band ≤ limit) × (2 * self.vertical + gross self.nets ≡ self.gross) }
         ensures { ZoneWith self band result }
     {
-        let own = self.nets;
-        let step = own.with_band(band);
-        let nets = step.left;
+        let step = self.nets.with_band(band);
         Zone {
-            gross: self.gross + (band.long + band.short),
+            gross: self.gross + band.gross(),
             vertical: self.vertical + step.matched,
-            nets,
+            nets: step.left,
         }
     }
 }
 
 // The bands from a number on, as many as are asked for.
-pub fn zone_of(longs: &[u64], shorts: &[u64], start: usize, many: usize) -> Zone
-    requires many_in_bounds { (start + many ≤ length longs.now) × (start + many ≤ length shorts.now) }
-    requires many_bound { gross (total (bands longs.now shorts.now) (span start many)) ≤ limit }
-    ensures { ZoneOf (bands longs.now shorts.now) (span start many) result }
+#[tactic(auto, using(crate::proofs::Gathering::gathering))]
+pub fn zone_of(positions: &[Position], start: usize, many: usize) -> Zone
+    requires many_in_bounds { start + many ≤ length positions.now }
+    requires many_bound { gross (total (bands positions.now) (span start many)) ≤ limit }
+    ensures { ZoneOf (bands positions.now) (span start many) result }
 {
-    let nets = Position { long: 0, short: 0 };
-    let mut zone = Zone {
-        gross: 0,
-        vertical: 0,
-        nets,
-    };
-    let mut n: usize = 0;
-    while n < many {
-        let at = start + n;
-        zone = zone.with_band(Position {
-            long: longs[at],
-            short: shorts[at],
-        });
-        n += 1;
+    let mut zone = Zone::default();
+    for position in &positions[start..start + many] {
+        zone = zone.with_band(*position);
     }
     zone
 }

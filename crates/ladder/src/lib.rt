@@ -6,7 +6,7 @@ pub mod positions;
 pub mod whole;
 pub mod zones;
 
-ghost use Rattle.std.specs.Prelude.{◌≡◌, ◌∷◌, ◌+◌, ◌*◌, ◌≤◌, max, length};
+ghost use Rattle.std.specs.Prelude.{◌≡◌, ◌∷◌, ◌+◌, ◌*◌, ◌≤◌, length};
 ghost use Rattle.sums.specs.Sums.{span};
 ghost use Rattle.ladder.specs.Position.{gross, total};
 ghost use Rattle.ladder.specs.Table.{AcceptedPercents};
@@ -24,6 +24,7 @@ pub const BANDS: usize = 15;
 pub const COMMODITY_BANDS: usize = 7;
 
 // The per cents of the interest ladder's steps: adjacent zones are 1-2 and 2-3, zones apart 1-3.
+// Their order stands in the contracts, since a table's bytes are read as these before it is tested.
 #[derive(Clone, Copy)]
 pub struct Percents {
     pub vertical: u64,
@@ -82,39 +83,32 @@ impl Percents {
     }
 }
 
-// The interest ladder of one currency, from the weighted longs and shorts of its bands.
-pub fn interest(longs: &[u64; BANDS], shorts: &[u64; BANDS], percents: Percents) -> InterestFigures
+// The interest ladder of one currency, from the weighted positions of its bands.
+pub fn interest(positions: &[Position; BANDS], percents: Percents) -> InterestFigures
     requires accepted_percents { AcceptedPercents percents }
-    requires zones_bound { gross (total (bands longs.now shorts.now) (all_bands zones)) ≤ limit }
-    ensures { InterestOf percents (bands longs.now shorts.now) result }
+    requires zones_bound { gross (total (bands positions.now) (all_bands zones)) ≤ limit }
+    ensures { InterestOf percents (bands positions.now) result }
 {
-    whole::gather(longs, shorts).figures(percents)
+    whole::gather(positions).figures(percents)
 }
 
-// The ladder of one commodity, from the longs and shorts of its bands: from the nearest, the whole net goes to the next.
+// The ladder of one commodity, from the positions of its bands: from the nearest, the whole net goes to the next.
 // 1.5% of each side of a match, 0.6% of what was carried, 15% of the net after the last band.
-pub fn commodity(
-    longs: &[u64; COMMODITY_BANDS],
-    shorts: &[u64; COMMODITY_BANDS],
-) -> CommodityFigures
-    requires { gross (total (bands longs.now shorts.now) commodity_bands) ≤ commodity_limit }
-    ensures { CommodityOf (bands longs.now shorts.now) result }
+#[tactic(auto, using(crate::proofs::Gathering::carrying))]
+pub fn commodity(positions: &[Position; COMMODITY_BANDS]) -> CommodityFigures
+    requires { gross (total (bands positions.now) commodity_bands) ≤ commodity_limit }
+    ensures { CommodityOf (bands positions.now) result }
 {
-    let mut matches: u64 = 0;
-    let mut carried: u64 = 0;
-    let mut position = Position { long: 0, short: 0 };
-    let mut band: usize = 0;
-    while band < COMMODITY_BANDS {
-        let step = position.carry(Position {
-            long: longs[band],
-            short: shorts[band],
-        });
-        carried += position.long + position.short;
+    let mut matches = 0;
+    let mut carried = 0;
+    let mut position = Position::default();
+    for band in positions {
+        let step = position.carry(*band);
+        carried += position.gross();
         matches += step.matched;
         position = step.left;
-        band += 1;
     }
-    let residual = position.long + position.short;
+    let residual = position.gross();
     CommodityFigures {
         matches,
         carried,
@@ -123,46 +117,35 @@ pub fn commodity(
     }
 }
 
-// Equity: the absolute nets of so many groups, summed.
-pub fn absolute_nets(longs: &[u64], shorts: &[u64], many: usize) -> u64
-    requires many_in_bounds { (many ≤ length longs.now) × (many ≤ length shorts.now) }
-    requires many_bound { gross (total (bands longs.now shorts.now) (span 0 many)) ≤ limit }
-    ensures { NetsOf (bands longs.now shorts.now) (span 0 many) (absolute_nets (span 0 many)) result }
+// Equity: the absolute nets of so many groups, summed. The array may be longer.
+pub fn absolute_nets(positions: &[Position], many: usize) -> u64
+    requires many_in_bounds { many ≤ length positions.now }
+    requires many_bound { gross (total (bands positions.now) (span 0 many)) ≤ limit }
+    ensures { NetsOf (bands positions.now) (span 0 many) (absolute_nets (span 0 many)) result }
 {
-    let nets = bands::zone_of(longs, shorts, 0, many).nets;
-    nets.long + nets.short
-}
-
-fn greater(a: u64, b: u64) -> u64
-    ensures { result ≡ max a b }
-{
-    if a < b { b } else { a }
+    bands::zone_of(positions, 0, many).nets.gross()
 }
 
 // Foreign exchange: the greater of the summed net longs and the summed net shorts of so many currencies, and the absolute net of
 // gold, which is the group before them.
-pub fn shorthand(longs: &[u64], shorts: &[u64], many: usize) -> u64
-    requires many_in_bounds { (1 + many ≤ length longs.now) × (1 + many ≤ length shorts.now) }
-    requires many_bound { gross (total (bands longs.now shorts.now) (0 ∷ span 1 many)) ≤ limit }
-    ensures { NetsOf (bands longs.now shorts.now) (0 ∷ span 1 many) (shorthand (span 1 many)) result }
+pub fn shorthand(positions: &[Position], many: usize) -> u64
+    requires many_in_bounds { 1 + many ≤ length positions.now }
+    requires many_bound { gross (total (bands positions.now) (0 ∷ span 1 many)) ≤ limit }
+    ensures { NetsOf (bands positions.now) (0 ∷ span 1 many) (shorthand (span 1 many)) result }
 {
-    let nets = bands::zone_of(longs, shorts, 1, many).nets;
-    let gold = Position {
-        long: longs[0],
-        short: shorts[0],
-    }
-    .net();
-    greater(nets.long, nets.short) + (gold.left.long + gold.left.short)
+    let nets = bands::zone_of(positions, 1, many).nets;
+    let gold = positions[0].net();
+    nets.long.max(nets.short) + gold.left.gross()
 }
 
 // Commodities by the simplified approach: 15% of the absolute net of each of so many commodities and 3% of its gross, in mils.
-pub fn simplified(longs: &[u64], shorts: &[u64], many: usize) -> u64
-    requires many_in_bounds { (many ≤ length longs.now) × (many ≤ length shorts.now) }
-    requires many_bound { gross (total (bands longs.now shorts.now) (span 0 many)) ≤ commodity_limit }
-    ensures { result ≡ simplified (span 0 many) (bands longs.now shorts.now) }
+pub fn simplified(positions: &[Position], many: usize) -> u64
+    requires many_in_bounds { many ≤ length positions.now }
+    requires many_bound { gross (total (bands positions.now) (span 0 many)) ≤ commodity_limit }
+    ensures { result ≡ simplified (span 0 many) (bands positions.now) }
 {
-    let all = bands::zone_of(longs, shorts, 0, many);
+    let all = bands::zone_of(positions, 0, many);
     let gross = all.gross;
-    let net = all.nets.long + all.nets.short;
+    let net = all.nets.gross();
     150000 * net + 30000 * gross
 }

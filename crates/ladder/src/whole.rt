@@ -17,18 +17,15 @@ pub struct Gathered {
     pub third: Zone,
 }
 
-// The zones of a ladder, from the weighted longs and shorts of its bands.
-pub fn gather(longs: &[u64; BANDS], shorts: &[u64; BANDS]) -> Gathered
-    requires { gross (total (bands_in longs.now shorts.now) (all_bands three_zones)) ≤ limit }
-    ensures { GatheredOf (bands_in longs.now shorts.now) result }
+// The zones of a ladder, from the weighted positions of its bands.
+pub fn gather(positions: &[Position; BANDS]) -> Gathered
+    requires { gross (total (bands_in positions.now) (all_bands three_zones)) ≤ limit }
+    ensures { GatheredOf (bands_in positions.now) result }
 {
-    let first = bands::zone_of(longs, shorts, 0, 4);
-    let second = bands::zone_of(longs, shorts, 4, 3);
-    let third = bands::zone_of(longs, shorts, 7, 8);
     Gathered {
-        first,
-        second,
-        third,
+        first: bands::zone_of(positions, 0, 4),
+        second: bands::zone_of(positions, 4, 3),
+        third: bands::zone_of(positions, 7, 8),
     }
 }
 
@@ -38,27 +35,21 @@ impl Gathered {
         requires { CanGather self position }
         ensures { (result ≡ gathered_with self band position) × Summed result }
     {
-        let first = self.first;
-        let second = self.second;
-        let third = self.third;
         if band < 4 {
-            return Gathered {
-                first: first.with_band(position),
-                second,
-                third,
-            };
-        }
-        if band < 7 {
-            return Gathered {
-                first,
-                second: second.with_band(position),
-                third,
-            };
-        }
-        Gathered {
-            first,
-            second,
-            third: third.with_band(position),
+            Gathered {
+                first: self.first.with_band(position),
+                ..self
+            }
+        } else if band < 7 {
+            Gathered {
+                second: self.second.with_band(position),
+                ..self
+            }
+        } else {
+            Gathered {
+                third: self.third.with_band(position),
+                ..self
+            }
         }
     }
 

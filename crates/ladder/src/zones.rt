@@ -5,7 +5,7 @@ ghost use Rattle.ladder.specs.Interest.{together, zones12, zones23, zones13, cro
 ghost use Rattle.ladder.specs.Inner.Steps.{limit, zones_gross, LadderStepOf, ZonesStepOf, combined};
 
 use crate::bands::Zone;
-use crate::positions::Position;
+use crate::positions::{Position, Step};
 
 // What is left of each zone.
 #[derive(Clone, Copy)]
@@ -13,13 +13,6 @@ pub struct Ladder {
     pub zone1: Position,
     pub zone2: Position,
     pub zone3: Position,
-}
-
-// What a step leaves of the zones, and its match.
-#[derive(Clone, Copy)]
-pub struct LadderStep {
-    pub left: Ladder,
-    pub matched: u64,
 }
 
 // What step 2 leaves of the zones, and its match in each.
@@ -54,36 +47,20 @@ pub struct Matches {
     pub residual: u64,
 }
 
-// What a step leaves of the three zones, with its match.
-fn step(zone1: Position, zone2: Position, zone3: Position, matched: u64) -> LadderStep
-    ensures { result ≡ record { left = record { zone1 = zone1; zone2 = zone2; zone3 = zone3 }; matched = matched } }
-{
-    LadderStep {
-        left: Ladder {
-            zone1,
-            zone2,
-            zone3,
-        },
-        matched,
-    }
-}
-
 impl Ladder {
     // In each zone the band nets, all longs against all shorts.
+    #[tactic(auto, unfolding(crate::specs::Inner::Steps::net_step, crate::specs::Inner::Steps::zones_step))]
     pub fn within(self) -> ZonesStep
         ensures { ZonesStepOf self result }
     {
         let one = self.zone1.net();
         let two = self.zone2.net();
         let three = self.zone3.net();
-        let zone1 = one.left;
-        let zone2 = two.left;
-        let zone3 = three.left;
         ZonesStep {
             left: Ladder {
-                zone1,
-                zone2,
-                zone3,
+                zone1: one.left,
+                zone2: two.left,
+                zone3: three.left,
             },
             zone1: one.matched,
             zone2: two.matched,
@@ -91,43 +68,73 @@ impl Ladder {
         }
     }
 
-    // Zone 1 against zone 2.
-    pub fn zones12(self) -> LadderStep
+    // Zone 1 against zone 2. Each step is a method that gives the new state and its match, as
+    // document 01 has it.
+    #[tactic(auto, unfolding(crate::specs::Interest::zones12))]
+    pub fn zones12(self) -> Step<Ladder>
         requires { zones_gross self ≤ limit }
         ensures { LadderStepOf self (zones12 self) result }
     {
         let offset = self.zone1.against(self.zone2);
-        step(offset.one, offset.other, self.zone3, offset.matched)
+        Step {
+            left: Ladder {
+                zone1: offset.one,
+                zone2: offset.other,
+                ..self
+            },
+            matched: offset.matched,
+        }
     }
 
     // What is left of zone 2 against zone 3.
-    pub fn zones23(self) -> LadderStep
+    #[tactic(auto, unfolding(crate::specs::Interest::zones23))]
+    pub fn zones23(self) -> Step<Ladder>
         requires { zones_gross self ≤ limit }
         ensures { LadderStepOf self (zones23 self) result }
     {
         let offset = self.zone2.against(self.zone3);
-        step(self.zone1, offset.one, offset.other, offset.matched)
+        Step {
+            left: Ladder {
+                zone2: offset.one,
+                zone3: offset.other,
+                ..self
+            },
+            matched: offset.matched,
+        }
     }
 
     // What is left of zones 1 and 3.
-    pub fn zones13(self) -> LadderStep
+    #[tactic(auto, unfolding(crate::specs::Interest::zones13))]
+    pub fn zones13(self) -> Step<Ladder>
         requires { zones_gross self ≤ limit }
         ensures { LadderStepOf self (zones13 self) result }
     {
         let offset = self.zone1.against(self.zone3);
-        step(offset.one, self.zone2, offset.other, offset.matched)
+        Step {
+            left: Ladder {
+                zone1: offset.one,
+                zone3: offset.other,
+                ..self
+            },
+            matched: offset.matched,
+        }
     }
 
     // The absolute net of what is left.
+    #[tactic(auto, unfolding(crate::specs::Inner::Steps::net_step))]
     pub fn residual(self) -> u64
         requires { zones_gross self ≤ limit }
         ensures { (result ≡ absolute_net (together self)) × (result ≤ zones_gross self) }
     {
-        let end = self.zone1.add(self.zone2.add(self.zone3)).net();
-        end.left.long + end.left.short
+        self.zone1
+            .add(self.zone2.add(self.zone3))
+            .net()
+            .left
+            .gross()
     }
 
     // The three zones against one another, each step beginning with what the one before it left.
+    #[tactic(auto, unfolding(crate::specs::Interest::crossing))]
     pub fn cross(self) -> Crossing
         requires { zones_gross self ≤ limit }
         ensures { result ≡ crossing self }
@@ -145,26 +152,22 @@ impl Ladder {
 }
 
 // The ladder of three zones whose bands are matched: each zone within itself, and then the zones against one another.
+#[tactic(auto, unfolding(crate::specs::Inner::Steps::combined))]
 pub fn combine(first: Zone, second: Zone, third: Zone) -> Matches
     requires gross_bound { first.gross + second.gross + third.gross ≤ limit }
     requires nets_bound { (first.vertical + gross first.nets ≤ first.gross) × (second.vertical + gross second.nets ≤ second.gross) × (third.vertical + gross third.nets ≤ third.gross) }
     ensures { result ≡ combined first second third }
 {
-    let gross = first.gross + second.gross + third.gross;
-    let vertical = first.vertical + second.vertical + third.vertical;
-    let zone1 = first.nets;
-    let zone2 = second.nets;
-    let zone3 = third.nets;
     let step = Ladder {
-        zone1,
-        zone2,
-        zone3,
+        zone1: first.nets,
+        zone2: second.nets,
+        zone3: third.nets,
     }
     .within();
     let crossing = step.left.cross();
     Matches {
-        gross,
-        vertical,
+        gross: first.gross + second.gross + third.gross,
+        vertical: first.vertical + second.vertical + third.vertical,
         zone1: step.zone1,
         zone2: step.zone2,
         zone3: step.zone3,

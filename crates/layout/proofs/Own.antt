@@ -3,11 +3,10 @@
 use mathlib.Core.Path.{◌≡◌, refl, ap, ◌∙◌}
 use mathlib.Core.List.{List, [], ◌∷◌, ◌++◌, map, flat_map, append-nil}
 use Prim.Native.Nat.{ℕ, zero, suc, ◌+◌, ◌*◌, ◌/◌, ◌%◌, ◌≤◌, ◌<◌}
-use native.Mathlib.Nat.{zero-add}
 use native.Mathlib.Numerals.{add-one}
 use native.Mathlib.Omega.{arith}
 use lib.ListN.{length, take, drop, get_or, length-drop}
-use lib.Seq.{take-nil, take_all, length-take-le, drop-drop}
+use lib.Seq.{take_all, take-add, length-take-le, drop-drop}
 use Rattle.sums.specs.Every.{none, also}
 use Rattle.book.specs.Fields.{u16_at, u32_at}
 use Rattle.book.specs.Counts.{contents_size, row_size, counts_of, count_in, rows_before, body_by, body_of}
@@ -51,13 +50,8 @@ own_two (suc at) none h = let never : ⊥ = omega arith in absurd never
 own_two (suc at) (also {a} {rest} p every) h = rw (next_u16 a at rest) (own_two at every (omega arith))
 
 -- two parts that lie one after the other
-pieces : (m n : ℕ) (s : List ℕ) → take m s ++ take n (drop m s) ≡ take (m + n) s
-pieces zero n s = rw zero-add
-pieces (suc m) n [] = rw (take-nil n, take-nil (suc m + n))
-pieces (suc m) n (a ∷ s) = let next : suc m + n ≡ suc (m + n) = omega arith in rw next (ap (λ (l : List ℕ). a ∷ l) (pieces m n s))
-
 pieces_from : (at m n : ℕ) (s : List ℕ) → take m (drop at s) ++ take n (drop (at + m) s) ≡ take (m + n) (drop at s)
-pieces_from at m n s = rw (← drop-drop m at s) (pieces m n (drop at s))
+pieces_from at m n s = rw (← drop-drop m at s, take-add)
 
 own_four : (at : ℕ) {s : List ℕ} → Bytes s → at + 4 ≤ length s → four_bytes_of (u32_at s at) ≡ take 4 (drop at s)
 unfolding u32_at four_bytes_of
@@ -71,30 +65,38 @@ own_four at {s} every h =
 pub own_contents : {s : List ℕ} → Bytes s → contents_size ≤ length s → contents_bytes (counts_of s) ≡ take contents_size s
 unfolding contents_bytes flat_map counts_of count_in
 own_contents {s} every h =
-    rw (own_two 0 every (omega arith), own_two 2 every (omega arith), own_two 4 every (omega arith), own_two 6 every (omega arith), append-nil)
-    (ap (λ l. take 2 s ++ (take 2 (drop 2 s) ++ l)) (pieces_from 4 2 2 s) ∙ ap (λ l. take 2 s ++ l) (pieces_from 2 2 4 s) ∙ pieces 2 6 s)
+    rw (
+      own_two 0 every (omega arith),
+      own_two 2 every (omega arith),
+      own_two 4 every (omega arith),
+      own_two 6 every (omega arith),
+      append-nil,
+      pieces_from 4 2 2 s,
+      pieces_from 2 2 4 s,
+      ← take-add 2 6 s,
+    )
 
 -- ---- a row
-first_two : (s : List ℕ) → 2 ≤ length s → get_or s 0 0 ∷ get_or s 1 0 ∷ [] ≡ take 2 s
-first_two [] h = let never : ⊥ = omega arith in absurd never
-first_two (a ∷ []) h = let never : ⊥ = omega arith in absurd never
-first_two (a ∷ b ∷ s) h = refl
-
-six_parts : {a b c d e f a' b' c' d' e' f' : List ℕ} → a ≡ a' → b ≡ b' → c ≡ c' → d ≡ d' → e ≡ e' → f ≡ f'
-    → a ++ (b ++ (c ++ (d ++ (e ++ f)))) ≡ a' ++ (b' ++ (c' ++ (d' ++ (e' ++ f'))))
-six_parts ea eb ec ed ee ef = rw (ea, eb, ec, ed, ee, ef)
+first_two : (s rest : List ℕ) → 2 ≤ length s → get_or s 0 0 ∷ get_or s 1 0 ∷ rest ≡ take 2 s ++ rest
+first_two [] rest h = let never : ⊥ = omega arith in absurd never
+first_two (a ∷ []) rest h = let never : ⊥ = omega arith in absurd never
+first_two (a ∷ b ∷ s) rest h = refl
 
 own_row : {b : List ℕ} → Bytes b → length b ≡ row_size → row_bytes (decode b) ≡ b
 unfolding row_bytes decode
 own_row {b} every h =
-    six_parts (first_two b (omega arith)) (own_two 2 every (omega arith)) (own_two 4 every (omega arith)) (own_two 6 every (omega arith))
-    (own_four 8 every (omega arith)) (own_four 12 every (omega arith))
-    ∙ ap (λ l. take 2 b ++ (take 2 (drop 2 b) ++ (take 2 (drop 4 b) ++ (take 2 (drop 6 b) ++ l)))) (pieces_from 8 4 4 b)
-    ∙ ap (λ l. take 2 b ++ (take 2 (drop 2 b) ++ (take 2 (drop 4 b) ++ l))) (pieces_from 6 2 8 b)
-    ∙ ap (λ l. take 2 b ++ (take 2 (drop 2 b) ++ l)) (pieces_from 4 2 10 b)
-    ∙ ap (λ l. take 2 b ++ l) (pieces_from 2 2 12 b)
-    ∙ pieces 2 14 b
-    ∙ take_all 16 b (omega arith)
+    rw (
+      own_two 2 every (omega arith),
+      own_two 4 every (omega arith),
+      own_two 6 every (omega arith),
+      own_four 8 every (omega arith),
+      own_four 12 every (omega arith),
+      pieces_from 8 4 4 b,
+      pieces_from 6 2 8 b,
+      pieces_from 4 2 10 b,
+      pieces_from 2 2 12 b,
+    )
+    (first_two b (take 14 (drop 2 b)) (omega arith) ∙ rw (← take-add 2 14 b) (take_all 16 b (omega arith)))
 
 -- the row at an offset
 pub own_row_at : {s : List ℕ} → Bytes s → (at : ℕ) → at + row_size ≤ length s → row_bytes (decode (take row_size (drop at s))) ≡ take row_size (drop at s)

@@ -1,18 +1,17 @@
 -- The entries of each call's result, in order.
 use Rattle.std.specs.Prelude.{ℕ, cond, List, [], ◌∷◌, ◌++◌}
 use Rattle.book.specs.declared.Refusal.{Refusal}
-use Rattle.book.specs.declared.Handed.{Handed}
+use Rattle.book.specs.Parts.{Handed}
 use Rattle.charges.specs.declared.Report.{Report}
-use Rattle.charges.specs.declared.InterestLadder.{InterestLadder}
-use Rattle.charges.specs.declared.CommodityLadder.{CommodityLadder}
-use Rattle.charges.specs.declared.SmallBank.{SmallBank}
-use Rattle.layout.specs.declared.Written.{Written}
-use Rattle.join.specs.declared.Joined.{Joined}
-use Rattle.shortest.specs.declared.Shown.{Shown}
-use Rattle.dearest.specs.declared.Costed.{Costed}
-use Rattle.options.specs.declared.Priced.{Priced}
-use Rattle.trade.specs.declared.Trade.{Trade}
-use Rattle.netting.specs.declared.Netted.{Netted}
+use Rattle.charges.specs.Report.{InterestLadder, CommodityLadder}
+use Rattle.charges.specs.SmallBank.{SmallBank}
+use Rattle.layout.specs.Room.{Written}
+use Rattle.join.specs.Joined.{Joined}
+use Rattle.shortest.specs.Shortest.{Shown}
+use Rattle.dearest.specs.Dearest.{Costed}
+use Rattle.options.specs.Options.{Priced}
+use Rattle.trade.specs.Trade.{Trade}
+use Rattle.netting.specs.Netted.{Netted}
 
 -- number, row, book (document 01, Who is told no, and why)
 unfoldable pub refusal_entries : Refusal → List ℕ

@@ -4,7 +4,8 @@
 
 mod writing;
 
-ghost use Rattle.std.specs.Prelude.{◌≡◌, ◌+◌, ◌≤◌, length as len};
+ghost use Rattle.std.specs.Prelude.{◌≡◌, ◌+◌, ◌-◌, ◌≤◌, ◌++◌, length as len, replicate};
+ghost use Rattle.book.specs.Reasons.{numbers_of};
 ghost use Rattle.book.specs.Refusals.{refusal_of};
 ghost use Rattle.book.specs.Parts.{handed_of};
 ghost use Rattle.table.specs.Loaded.{standard_bytes};
@@ -14,6 +15,7 @@ ghost use Rattle.charges.specs.SmallBank.{small_bank_of};
 ghost use Rattle.trade.specs.Trade.{least_trade_of};
 ghost use Rattle.market_risk.specs.Entries.{refusal_entries, handed_entries, report_entries, interest_entries, commodity_entries, small_entries, trade_entries};
 
+use book::{Refusal, Refused};
 pub use writing::{
     market_risk_dearest, market_risk_join, market_risk_net, market_risk_net_and_offset,
     market_risk_offset, market_risk_options, market_risk_shortest,
@@ -22,30 +24,42 @@ pub use writing::{
 // The entries of a report: its refusal and figures, and two for each currency.
 pub const REPORT: usize = 75;
 
+// A refusal's entries.
+fn refusal_entries(refusal: Refusal) -> [u64; 3]
+    ensures { result ≡ refusal_entries refusal }
+{
+    [
+        u64::from(refusal.number),
+        u64::from(refusal.row),
+        u64::from(refusal.book),
+    ]
+}
+
+// The entries of a refused call: those of its refusal, and no figure.
+fn refused_entries<const N: usize>(refused: Refused) -> [u64; N]
+    requires { 3 ≤ N }
+    ensures { result ≡ refusal_entries (numbers_of refused) ++ replicate (N - 3) 0 }
+{
+    let mut entries = [0; N];
+    entries[..3].copy_from_slice(&refusal_entries(refused.into()));
+    entries
+}
+
 // The refusal of a book.
 pub fn market_risk_check(book: &[u8], out: &mut [u64; 3])
     ensures { out.new ≡ refusal_entries (refusal_of book.now) }
 {
-    let refusal = book::check(book);
-    *out = [
-        refusal.number as u64,
-        refusal.row as u64,
-        refusal.book as u64,
-    ];
+    *out = refusal_entries(book::told(&book::check(book)));
 }
 
-// Where the rows of a class lie in a book.
+// Where the rows of a class lie in a book. Casts, since a u64 has no From of a usize.
 pub fn market_risk_part(book: &[u8], class: usize, out: &mut [u64; 5])
     ensures { out.new ≡ handed_entries (handed_of book.now class) }
 {
-    let handed = book::hand(book, class);
-    *out = [
-        handed.refusal.number as u64,
-        handed.refusal.row as u64,
-        handed.refusal.book as u64,
-        handed.start as u64,
-        handed.length as u64,
-    ];
+    *out = match book::hand(book, class) {
+        Ok(handed) => [0, 0, 0, handed.start as u64, handed.length as u64],
+        Err(refused) => refused_entries(refused),
+    };
 }
 
 // Document 01's table.
@@ -60,10 +74,11 @@ pub fn market_risk_charge(book: &[u8], table: &[u8], out: &mut [u64; REPORT])
     ensures { out.new ≡ report_entries (report_of table.now book.now) }
 {
     let report = charges::charge(book, table);
+    let [number, row, book] = refusal_entries(report.refusal);
     let figures = [
-        report.refusal.number as u64,
-        report.refusal.row as u64,
-        report.refusal.book as u64,
+        number,
+        row,
+        book,
         report.interest.specific,
         report.interest.general,
         report.equity.specific,
@@ -71,14 +86,13 @@ pub fn market_risk_charge(book: &[u8], table: &[u8], out: &mut [u64; REPORT])
         report.exchange,
         report.commodity,
         report.total,
+        // A cast, since a u64 has no From of a usize.
         report.taken as u64,
     ];
-    let specifics = report.specifics;
-    let generals = report.generals;
     *out = [0; REPORT];
     write_entries(&figures, out, 0);
-    write_entries(&specifics, out, 11);
-    write_entries(&generals, out, 43);
+    write_entries(&report.specifics, out, 11);
+    write_entries(&report.generals, out, 43);
 }
 
 // Writes entries of a report from an index on; every other entry keeps its value.
@@ -86,64 +100,59 @@ fn write_entries(entries: &[u64], out: &mut [u64; REPORT], at: usize)
     requires { (len out.old ≡ 75) × (at + len entries.now ≤ 75) }
     ensures { out.new ≡ written out.old at entries.now }
 {
-    let mut i: usize = 0;
-    while i < entries.len() {
-        out[at + i] = entries[i];
-        i += 1;
-    }
+    out[at..at + entries.len()].copy_from_slice(entries);
 }
 
 // The interest ladder of a currency, by a table.
 pub fn market_risk_interest_ladder(book: &[u8], table: &[u8], group: usize, out: &mut [u64; 13])
     ensures { out.new ≡ interest_entries (interest_ladder_of table.now book.now group) }
 {
-    let ladder = charges::interest_ladder(book, table, group);
-    *out = [
-        ladder.refusal.number as u64,
-        ladder.refusal.row as u64,
-        ladder.refusal.book as u64,
-        ladder.figures.matches.gross,
-        ladder.figures.matches.vertical,
-        ladder.figures.matches.zone1,
-        ladder.figures.matches.zone2,
-        ladder.figures.matches.zone3,
-        ladder.figures.matches.zones12,
-        ladder.figures.matches.zones23,
-        ladder.figures.matches.zones13,
-        ladder.figures.matches.residual,
-        ladder.figures.charge,
-    ];
+    *out = match charges::interest_ladder(book, table, group) {
+        Ok(ladder) => [
+            0,
+            0,
+            0,
+            ladder.matches.gross,
+            ladder.matches.vertical,
+            ladder.matches.zone1,
+            ladder.matches.zone2,
+            ladder.matches.zone3,
+            ladder.matches.zones12,
+            ladder.matches.zones23,
+            ladder.matches.zones13,
+            ladder.matches.residual,
+            ladder.charge,
+        ],
+        Err(refused) => refused_entries(refused),
+    };
 }
 
 // The ladder of a commodity.
 pub fn market_risk_commodity_ladder(book: &[u8], group: usize, out: &mut [u64; 7])
     ensures { out.new ≡ commodity_entries (commodity_ladder_of book.now group) }
 {
-    let ladder = charges::commodity_ladder(book, group);
-    *out = [
-        ladder.refusal.number as u64,
-        ladder.refusal.row as u64,
-        ladder.refusal.book as u64,
-        ladder.figures.matches,
-        ladder.figures.carried,
-        ladder.figures.residual,
-        ladder.figures.charge,
-    ];
+    *out = match charges::commodity_ladder(book, group) {
+        Ok(ladder) => [
+            0,
+            0,
+            0,
+            ladder.matches,
+            ladder.carried,
+            ladder.residual,
+            ladder.charge,
+        ],
+        Err(refused) => refused_entries(refused),
+    };
 }
 
 // The figures of a bank with foreign exchange and commodities alone.
 pub fn market_risk_small_bank(book: &[u8], out: &mut [u64; 6])
     ensures { out.new ≡ small_entries (small_bank_of book.now) }
 {
-    let bank = charges::small_bank(book);
-    *out = [
-        bank.refusal.number as u64,
-        bank.refusal.row as u64,
-        bank.refusal.book as u64,
-        bank.exchange,
-        bank.commodity,
-        bank.total,
-    ];
+    *out = match charges::small_bank(book) {
+        Ok(bank) => [0, 0, 0, bank.exchange, bank.commodity, bank.total],
+        Err(refused) => refused_entries(refused),
+    };
 }
 
 // The least amount that, added to a side of a band, brings a currency's charge within a limit, by a
@@ -159,12 +168,9 @@ pub fn market_risk_least_trade(
 )
     ensures { res.new ≡ trade_entries (least_trade_of table.now book.now group band side limit) }
 {
-    let trade = trade::least_trade(book, table, group, band, side, limit);
-    *res = [
-        trade.refusal.number as u64,
-        trade.refusal.row as u64,
-        trade.refusal.book as u64,
-        trade.least.found as u64,
-        trade.least.amount,
-    ];
+    *res = match trade::least_trade(book, table, group, band, side, limit) {
+        Ok(Some(amount)) => [0, 0, 0, 1, amount],
+        Ok(None) => [0; 5],
+        Err(refused) => refused_entries(refused),
+    };
 }

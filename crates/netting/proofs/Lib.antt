@@ -3,6 +3,7 @@ pub mod Places
 pub mod Standing
 pub mod Keeping
 pub mod FirstRows
+pub mod Sides
 pub mod Adding
 pub mod Tallied
 pub mod Entries

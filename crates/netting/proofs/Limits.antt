@@ -20,9 +20,10 @@ use Rattle.issues.specs.Agreeing.{over_limit}
 use Rattle.issues.proofs.Walking.{issue_other}
 use Rattle.netting.specs.Netted.{first_found}
 use Rattle.netting.specs.Inner.Gathering.{Holds}
+use Rattle.amounts.specs.declared.positions.Amounts.{Amounts}
 use Rattle.amounts.specs.Inner.Standing.{positions_in}
 use Rattle.netting.specs.Inner.Nets.{is_over, first_number}
-use Rattle.netting.proofs.Settling.{Stands, stands_same, stands_own, stands_nothing, stands_new, stands_issue, none_hidden, seen_hidden, OneSided, from_tables}
+use Rattle.netting.proofs.Settling.{Stands, stands_same, stands_own, stands_nothing, stands_new, stands_issue, none_hidden, seen_hidden, OneSided, from_sums}
 
 nothing-over : is_over empty ≡ false
 unfolding net matched
@@ -110,11 +111,11 @@ module _ (f : Bands) (class : ℕ) (all : List Row) (test : Leg → Bool) (same 
           (λ within. on (i ∷ seen) (stands_new f seen at row rows stands some) (ahead_new seen row rows ahead (ltb-false most_amount _ within)))
 
   -- the rows of a class, and what follows them
-  pub over_class : (longs shorts : List ℕ) (first : ℕ) → f ≡ positions_in longs shorts → Holds first all longs shorts → Every OneSided all
+  pub over_class : (amounts : Amounts) (first : ℕ) → f ≡ positions_in amounts → Holds first all amounts → Every OneSided all
       → (more : List Leg) (many : ℕ)
       → first_number 14 (λ k. is_over (f k)) (first + length all) many ≡ first_found 14 test (first + length all) more
       → first_number 14 (λ k. is_over (f k)) first (length all + many) ≡ first_found 14 test first (map (leg_with class) all ++ more)
   unfolding has
-  over_class longs shorts first is holds sided more many later =
-      over_from [] first all (rw is (from_tables longs shorts first all holds)) sided
+  over_class amounts first is holds sided more many later =
+      over_from [] first all (rw is (from_sums amounts first all holds)) sided
       (record { seen_within = λ x old. absurd (true≢false (sym old)); whole = λ x some new. refl }) more many later

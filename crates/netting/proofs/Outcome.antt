@@ -1,4 +1,4 @@
--- What the tables of an accepted book come to: 14, and with the nets in the place of the sums the netted rows.
+-- What the amounts of an accepted book come to: 14, and with the nets in the place of the sums the netted rows.
 -- Assumes nothing.
 use mathlib.Core.Path.{◌≡◌, refl, sym, ap, ◌∙◌}
 use mathlib.Core.Bool.{Bool, true, false, cond}
@@ -22,6 +22,7 @@ use Rattle.ladder.specs.Position.{Bands, gross, net, absolute_net}
 use Rattle.issues.specs.Agreeing.{over_limit}
 use Rattle.netting.specs.Netted.{first_found, found_in_class, over_refusal, netted_class}
 use Rattle.netting.specs.Inner.Gathering.{Holds}
+use Rattle.amounts.specs.declared.positions.Amounts.{Amounts}
 use Rattle.amounts.specs.Inner.Standing.{positions_in, Stands}
 use Rattle.amounts.proofs.Standing.{standing-same}
 use Rattle.netting.specs.Inner.Nets.{is_over, first_number, NetsAt}
@@ -42,13 +43,13 @@ none_found n test row (suc many) e k h = go (test row) refl e (none_found n test
     go false t e later zero h = rw (add-zero row) t
     go false t e later (suc k) h = rw (add-suc row k, ← suc-add row k) (later e k (omega arith))
 
-module _ (s : List ℕ) (ok : Accepted s) (longs shorts : List ℕ)
-    (holds : (class : ℕ) → 1 ≤ class → class ≤ 4 → Holds (rows_before (counts_of s) class) (of_class class (legs_of s)) longs shorts) where
+module _ (s : List ℕ) (ok : Accepted s) (amounts : Amounts)
+    (holds : (class : ℕ) → 1 ≤ class → class ≤ 4 → Holds (rows_before (counts_of s) class) (of_class class (legs_of s)) amounts) where
   abbrev counts : Counts
   counts = counts_of s
 
   abbrev positions : Bands
-  positions = positions_in longs shorts
+  positions = positions_in amounts
 
   sided : (class : ℕ) → 1 ≤ class → class ≤ 4 → Every OneSided (of_class class (legs_of s))
   sided class low high = every_implied (λ row clean. clean_sided clean) (rows_clean s ok class low high)
@@ -77,7 +78,7 @@ module _ (s : List ℕ) (ok : Accepted s) (longs shorts : List ℕ)
       let many : count_of_rows counts - rows_before counts class ≡ length (of_class class (legs_of s)) + (count_of_rows counts - past) =
       omega (arith, before-within counts class) in
       rw (many, legs_next s class low high)
-      (over_class positions class (of_class class (legs_of s)) test (λ row. refl) longs shorts (rows_before counts class) refl (holds class low high) (sided class low high)
+      (over_class positions class (of_class class (legs_of s)) test (λ row. refl) amounts (rows_before counts class) refl (holds class low high) (sided class low high)
       (from_class (class_legs s) (class + 1)) (count_of_rows counts - past) (rw next at later))
 
   pub over_found : first_number 14 (λ k. is_over (positions k)) 0 (count_of_rows counts) ≡ over_refusal (legs_of s)
@@ -94,14 +95,13 @@ module _ (s : List ℕ) (ok : Accepted s) (longs shorts : List ℕ)
   nets-within e k h = ltb-false most_amount _ (rw zero-add at (none_found 13 (λ j. is_over (positions j)) 0 (count_of_rows counts) e k h))
 
   -- ---- the nets in the place of the sums
-  pub stands : (first_number 14 (λ k. is_over (positions k)) 0 (count_of_rows counts)).number ≡ 0 → {longs' shorts' : List ℕ} → NetsAt (count_of_rows counts) longs shorts longs' shorts'
-      → Stands s (netted_class s) longs' shorts'
-  stands none {longs'} {shorts'} nets =
+  pub stands : (first_number 14 (λ k. is_over (positions k)) 0 (count_of_rows counts)).number ≡ 0 → {amounts' : Amounts} → NetsAt (count_of_rows counts) amounts amounts'
+      → Stands s (netted_class s) amounts'
+  stands none {amounts'} nets =
       record {
-        tables = nets.tables;
-        can = record { accepted = ok; within = λ k h. omega (arith, ap gross (nets.each k h), nets-within none k h) };
+        can = record { within = λ k h. omega (arith, ap gross (nets.each k h), nets-within none k h) };
         each = λ class low high.
-            standing-same (positions_in longs' shorts') (λ k. net (positions k)) _ _ (λ k h.
+            standing-same (positions_in amounts') (λ k. net (positions k)) _ _ (λ k h.
             nets.each (rows_before counts class + k) (omega (arith, class_size s ok class low high, before-within counts class)))
-            ∙ settled-netted longs shorts _ _ (holds class low high) (sided class low high);
+            ∙ settled-netted amounts _ _ (holds class low high) (sided class low high);
       }

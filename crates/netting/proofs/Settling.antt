@@ -19,6 +19,7 @@ use Rattle.ladder.specs.Position.{Bands, empty, gross, matched, net}
 use Rattle.ladder.proofs.Matching.{same_position, net-sides}
 use Rattle.issues.specs.Issues.{issues_of, has, placed, netted_from, netted_rows}
 use Rattle.netting.specs.Inner.Gathering.{Holds}
+use Rattle.amounts.specs.declared.positions.Amounts.{Amounts}
 use Rattle.amounts.specs.Inner.Own.{amounts_of}
 use Rattle.amounts.proofs.Standing.{placed-own, clean_some, clean_within}
 use Rattle.amounts.specs.Inner.Standing.{positions_in, standing_rows}
@@ -113,14 +114,14 @@ settled-from f seen at (row ∷ rows) stands (also own sided) =
         let some = eqb-false i 0 e in
         rw (stands_issue f seen at row rows stands some o, on (i ∷ seen) (stands_new f seen at row rows stands some))
 
--- ---- from the tables
-pub from_tables : (longs shorts : List ℕ) (first : ℕ) (rows : List Row) → Holds first rows longs shorts → Stands (positions_in longs shorts) [] first rows
-from_tables longs shorts first rows holds =
+-- ---- from the sums
+pub from_sums : (amounts : Amounts) (first : ℕ) (rows : List Row) → Holds first rows amounts → Stands (positions_in amounts) [] first rows
+from_sums amounts first rows holds =
     record {
       each = λ k h.
           same_position (holds.longs_at k h ∙ unseen (λ r. r.long) no_long rows k) (holds.shorts_at k h ∙ unseen (λ r. r.short) no_short rows k);
     }
 
-pub settled-netted : (longs shorts : List ℕ) (first : ℕ) (rows : List Row) → Holds first rows longs shorts → Every OneSided rows
-    → standing_rows (λ k. net (positions_in longs shorts k)) first rows ≡ netted_rows rows
-settled-netted longs shorts first rows holds sided = settled-from _ [] first rows (from_tables longs shorts first rows holds) sided
+pub settled-netted : (amounts : Amounts) (first : ℕ) (rows : List Row) → Holds first rows amounts → Every OneSided rows
+    → standing_rows (λ k. net (positions_in amounts k)) first rows ≡ netted_rows rows
+settled-netted amounts first rows holds sided = settled-from _ [] first rows (from_sums amounts first rows holds) sided

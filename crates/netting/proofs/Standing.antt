@@ -56,13 +56,13 @@ module _ (issue : ℕ) where
       go false e later = ap suc (later e)
 
   -- what a function gives for it, in the list of what it gives
-  pub place_mapped : (f : ℕ → ℕ) (list : List ℕ) → has list issue ≡ true → get_or (map f list) (place_of issue list) 0 ≡ f issue
+  pub place_mapped : {A : Type 0} (f : ℕ → A) (d : A) (list : List ℕ) → has list issue ≡ true → get_or (map f list) (place_of issue list) d ≡ f issue
   unfolding has first_place
-  place_mapped f [] e = absurd (true≢false (sym e))
-  place_mapped f (other ∷ list) e = go (eqb other issue) refl e (place_mapped f list)
+  place_mapped f d [] e = absurd (true≢false (sym e))
+  place_mapped f d (other ∷ list) e = go (eqb other issue) refl e (place_mapped f d list)
     where
-      go : (own : Bool) → eqb other issue ≡ own → own || has list issue ≡ true → (has list issue ≡ true → get_or (map f list) (place_of issue list) 0 ≡ f issue)
-          → get_or (f other ∷ map f list) (cond own 0 (suc (place_of issue list))) 0 ≡ f issue
+      go : (own : Bool) → eqb other issue ≡ own → own || has list issue ≡ true → (has list issue ≡ true → get_or (map f list) (place_of issue list) d ≡ f issue)
+          → get_or (f other ∷ map f list) (cond own 0 (suc (place_of issue list))) d ≡ f issue
       go true same e later = ap f (eqb-true other issue same)
       go false same e later = later e
 

@@ -1,17 +1,19 @@
 -- A book netted (P1): what is written, who is told no, and the output afterwards.
-use Rattle.std.specs.Prelude.{ℕ, suc, Bool, cond, List, [], ◌∷◌, length}
+use Rattle.std.specs.Prelude.{ℕ, suc, Bool, cond, List, [], ◌∷◌, length, Result}
 use Rattle.book.specs.declared.Row.{Row}
 use Rattle.book.specs.declared.Refusal.{Refusal}
 use Rattle.sums.specs.Sums.{sum_of}
 use Rattle.book.specs.Counts.{classes}
 use Rattle.book.specs.Legs.{Leg, legs_of, of_class}
 use Rattle.book.specs.Refusals.{refused, refusal_of}
+use Rattle.book.specs.declared.Refused.{Refused}
+use Rattle.book.specs.Reasons.{told, figure_in}
 use Rattle.layout.specs.Files.{book_by}
 use Rattle.layout.specs.Room.{or_next, room_refusal, figure_of, output_of}
 use Rattle.issues.specs.Issues.{netted_rows}
 use Rattle.issues.specs.Comparing.{comparisons}
 use Rattle.issues.specs.Agreeing.{differs, over_limit}
-pub use Rattle.netting.specs.declared.Netted.{Netted}
+use Rattle.netting.specs.declared.Netted.{Netted as Figures}
 
 -- ---- who is told no
 -- a number at the first leg that a test finds, the legs numbered from `row` on
@@ -52,6 +54,22 @@ comparisons_of s = sum_of (λ class. comparisons (of_class class (legs_of s))) c
 -- the refusal of netting a book into an output of so many bytes: 12 comes last (P1)
 unfoldable pub netting_refusal : List ℕ → ℕ → Refusal
 netting_refusal s room = or_next (issues_refusal s) (room_refusal (length (netted_book s)) room)
+
+-- what a call that nets gives: why it is refused, all zero where it is not; the length of what it
+-- writes (P1) and the comparisons (P7), 0 where it is refused
+pub record Netted : Type 0 where
+  pub refusal : Refusal
+  pub length : ℕ
+  pub comparisons : ℕ
+
+-- an answer as such a record (P1; P7)
+abbrev pub netting_answer : Result Figures Refused → Netted
+netting_answer answer =
+    record {
+      refusal = told answer;
+      length = figure_in (λ figures. figures.length) answer;
+      comparisons = figure_in (λ figures. figures.comparisons) answer;
+    }
 
 -- the answer of a call that nets and writes a book: the refusal, the length of what is written (P1) and the comparisons (P7)
 unfoldable pub netted_answer : Refusal → List ℕ → ℕ → Netted

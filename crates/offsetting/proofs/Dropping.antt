@@ -1,126 +1,108 @@
--- The loop over the interest rows: the pairs up to a row are dropped in the tables.
+-- The loop over the interest rows: the pairs up to a row are dropped.
 -- Assumes nothing.
-use mathlib.Core.Path.{◌≡◌, refl, sym, ap, ◌∙◌}
+use mathlib.Core.Path.{◌≡◌, refl, ap, ◌∙◌}
 use mathlib.Core.List.{List, ◌++◌, append-nil}
 use Prim.Native.Nat.{ℕ, suc, ◌+◌, ◌≤◌, ◌<◌}
-use native.Mathlib.Decide.{ℕ_discrete, dec_lt}
+use native.Mathlib.Decide.{ℕ_discrete}
 use native.Mathlib.Numerals.{add-one}
 use native.Mathlib.Omega.{arith}
 use lib.ListN.{length, take, drop, set, length-drop, drop_of_length-le}
 use lib.Seq.{take_all}
-use borrow.Author.Tests.{eq-eqb, ne_eqb, lt-ltb, le-ltb}
+use borrow.Author.Tests.{eq-eqb, ne_eqb}
+use Rattle.std.specs.Prelude.{None, Some}
 use Rattle.book.specs.declared.Row.{Row}
 use Rattle.book.specs.Refusals.{most_rows}
 use Rattle.ladder.specs.Position.{Bands, empty, gross}
 use Rattle.swaps.specs.Offset.{offset_from, offset_rows}
-use Rattle.amounts.specs.Inner.Standing.{positions_in, Tables, standing_rows}
-use Rattle.amounts.proofs.Tables.{set_tables, set_here, set_other}
-use Rattle.offsetting.specs.Inner.Pairs.{fit_from, leg_at, fit_for, cleared_in, Dropped}
+use Rattle.amounts.specs.declared.positions.Amounts.{Amounts}
+use Rattle.amounts.specs.Inner.Standing.{positions_in, standing_rows}
+use Rattle.amounts.proofs.Tables.{put_here, put_other}
+use Rattle.offsetting.specs.Inner.Pairs.{fit_from, leg_at, fit_for, Dropped}
 use Rattle.offsetting.proofs.Fits.{fit_within}
 use Rattle.offsetting.proofs.Steps.{left_from, gone_stays, none_stays, pair_dropped}
 
--- ---- two numbers cleared in both tables
-module _ (longs shorts : List ℕ) (tables : Tables longs shorts) (row other : ℕ) (room : row < most_rows) (other_room : other < most_rows) where
-  abbrev cleared : Bands
-  cleared = positions_in (set (set longs row 0) other 0) (set (set shorts row 0) other 0)
+-- ---- the amounts at two numbers cleared
+module _ (amounts one both : Amounts) (row other : ℕ) (first : one.rows ≡ set amounts.rows row empty) (second : both.rows ≡ set one.rows other empty) where
+  cleared_other : other < most_rows → positions_in both other ≡ empty
+  cleared_other = put_here one both other empty second
 
-  first-tables : Tables (set longs row 0) (set shorts row 0)
-  first-tables = set_tables longs shorts tables row room 0 0
+  cleared_row : row < most_rows → (row ≡ other → ⊥) → positions_in both row ≡ empty
+  cleared_row room apart = put_other one both other empty second row apart ∙ put_here amounts one row empty first room
 
-  cleared_tables : Tables (set (set longs row 0) other 0) (set (set shorts row 0) other 0)
-  cleared_tables = set_tables _ _ first-tables other other_room 0 0
-
-  cleared_other : cleared other ≡ empty
-  cleared_other = set_here _ _ first-tables other other_room 0 0
-
-  cleared_row : (row ≡ other → ⊥) → cleared row ≡ empty
-  cleared_row apart = set_other _ _ first-tables other other_room 0 0 row apart ∙ set_here longs shorts tables row room 0 0
-
-  cleared_same : (k : ℕ) → (k ≡ row → ⊥) → (k ≡ other → ⊥) → cleared k ≡ positions_in longs shorts k
-  cleared_same k apart apart' = set_other _ _ first-tables other other_room 0 0 k apart' ∙ set_other longs shorts tables row room 0 0 k apart
+  cleared_same : (k : ℕ) → (k ≡ row → ⊥) → (k ≡ other → ⊥) → positions_in both k ≡ positions_in amounts k
+  cleared_same k apart apart' = put_other one both other empty second k apart' ∙ put_other amounts one row empty first k apart
 
 -- ---- the pairs of the rows before this one are dropped
-module _ (rows : List Row) (longs₀ shorts₀ : List ℕ) where
-  pub record DroppedTo (row : ℕ) (longs shorts : List ℕ) : Type 0 where
-    pub tables : Tables longs shorts
-    pub left : standing_rows (positions_in longs shorts) 0 (take row rows) ++ offset_rows (standing_rows (positions_in longs shorts) row (drop row rows))
-        ≡ offset_rows (standing_rows (positions_in longs₀ shorts₀) 0 rows)
-    pub beyond : (k : ℕ) → length rows ≤ k → positions_in longs shorts k ≡ positions_in longs₀ shorts₀ k
-    pub no_more : (k : ℕ) → gross (positions_in longs shorts k) ≤ gross (positions_in longs₀ shorts₀ k)
+module _ (rows : List Row) (amounts₀ : Amounts) where
+  pub record DroppedTo (row : ℕ) (amounts : Amounts) : Type 0 where
+    pub left : standing_rows (positions_in amounts) 0 (take row rows) ++ offset_rows (standing_rows (positions_in amounts) row (drop row rows))
+        ≡ offset_rows (standing_rows (positions_in amounts₀) 0 rows)
+    pub beyond : (k : ℕ) → length rows ≤ k → positions_in amounts k ≡ positions_in amounts₀ k
+    pub no_more : (k : ℕ) → gross (positions_in amounts k) ≤ gross (positions_in amounts₀ k)
 
-  pub dropped-none : Tables longs₀ shorts₀ → DroppedTo 0 longs₀ shorts₀
+  pub dropped-none : DroppedTo 0 amounts₀
   unfolding standing_rows
-  dropped-none tables = record { tables = tables; left = refl; beyond = λ k h. refl; no_more = λ k. omega arith }
+  dropped-none = record { left = refl; beyond = λ k h. refl; no_more = λ k. omega arith }
 
-  module _ (row : ℕ) (longs shorts : List ℕ) (now : DroppedTo row longs shorts) (h : row < length rows) (few : length rows ≤ most_rows) where
+  module _ (row : ℕ) (amounts : Amounts) (now : DroppedTo row amounts) (h : row < length rows) (few : length rows ≤ most_rows) where
     abbrev f : Bands
-    f = positions_in longs shorts
+    f = positions_in amounts
 
-    -- no later row fits
-    same : left_from rows row h f (suc row) ≡ left_from rows row h f row → DroppedTo (suc row) longs shorts
-    same e = record { tables = now.tables; left = e ∙ now.left; beyond = now.beyond; no_more = now.no_more }
+    -- ---- the row was dropped, or no later row fits
+    same : left_from rows row h f (suc row) ≡ left_from rows row h f row → DroppedTo (suc row) amounts
+    same e = record { left = e ∙ now.left; beyond = now.beyond; no_more = now.no_more }
 
-    -- one does
-    module _ (other : ℕ) (there : gross (f row) ≡ 0 → ⊥) (found : fit_from (leg_at rows f row) f (suc row) (drop (suc row) rows) ≡ other) (within : other < length rows) where
-      past : suc row + length (drop (suc row) rows) ≡ length rows
-      past = omega (arith, length-drop (suc row) rows)
+    pub dropped-same : fit_for rows f row ≡ None → DroppedTo (row + 1) amounts
+    unfolding fit_for
+    dropped-same none = rw (add-one row) (go (ℕ_discrete (gross (f row)) 0))
+      where
+        go : Dec (gross (f row) ≡ 0) → DroppedTo (suc row) amounts
+        go (yes gone) = same (gone_stays rows row h f gone)
+        go (no there) = same (none_stays rows row h f there (rw (ne_eqb (gross (f row)) 0 there) at none))
 
-      beyond_row : row < other
-      beyond_row = omega (arith, found, (fit_within (leg_at rows f row) f (suc row) (drop (suc row) rows)).0)
+    -- ---- one does
+    module _ (other : ℕ) (found : fit_for rows f row ≡ Some other) where
+      found_later : (gross (f row) ≡ 0 → ⊥) × (fit_from (leg_at rows f row) f (suc row) (drop (suc row) rows) ≡ Some other)
+      unfolding fit_for
+      found_later = go (ℕ_discrete (gross (f row)) 0)
+        where
+          go : Dec (gross (f row) ≡ 0) → (gross (f row) ≡ 0 → ⊥) × (fit_from (leg_at rows f row) f (suc row) (drop (suc row) rows) ≡ Some other)
+          go (yes gone) = let never = rw (eq-eqb (gross (f row)) 0 gone) at found in absurd (cc)
+          go (no there) = (there, rw (ne_eqb (gross (f row)) 0 there) at found)
+
+      pub found_within : (row < other) × (other < length rows)
+      found_within =
+          let within = fit_within (leg_at rows f row) f (suc row) (drop (suc row) rows) other found_later.1 in
+          (omega (arith, within.0), omega (arith, within.1, length-drop (suc row) rows))
 
       room : row < most_rows
       room = omega arith
 
       other_room : other < most_rows
-      other_room = omega arith
+      other_room = omega (arith, found_within.1)
 
-      g : Bands
-      g = cleared longs shorts now.tables row other room other_room
-
-      both : DroppedTo (suc row) (set (set longs row 0) other 0) (set (set shorts row 0) other 0)
-      unfolding g
-      both =
-          let own = cleared_row longs shorts now.tables row other room other_room (λ e. omega (arith, beyond_row)) in
-          let its = cleared_other longs shorts now.tables row other room other_room in
-          let rest = cleared_same longs shorts now.tables row other room other_room in
-          record {
-            tables = cleared_tables longs shorts now.tables row other room other_room;
-            left = pair_dropped rows row h f g other there found (omega (arith, past)) beyond_row (ap gross own) (ap gross its) rest ∙ now.left;
-            beyond = λ k k-h. rest k (λ e. omega arith) (λ e. omega arith) ∙ now.beyond k k-h;
+      pub dropped-pair : (one both : Amounts) → one.rows ≡ set amounts.rows row empty → both.rows ≡ set one.rows other empty → DroppedTo (row + 1) both
+      dropped-pair one both first second =
+          let own = cleared_row amounts one both row other first second room (λ e. omega (arith, found_within.0)) in
+          let its = cleared_other amounts one both row other first second other_room in
+          let rest = cleared_same amounts one both row other first second in
+          rw (add-one row) record {
+            left = pair_dropped rows row h f (positions_in both) other found_later.0 found_later.1 found_within.0 (ap gross own) (ap gross its) rest ∙ now.left;
+            beyond = λ k k-h. rest k (λ e. omega arith) (λ e. omega (arith, found_within.1)) ∙ now.beyond k k-h;
             no_more = λ k. less k (ℕ_discrete k row) (ℕ_discrete k other) own its rest;
           }
         where
-          less : (k : ℕ) → Dec (k ≡ row) → Dec (k ≡ other) → g row ≡ empty → g other ≡ empty → ((k : ℕ) → (k ≡ row → ⊥) → (k ≡ other → ⊥) → g k ≡ f k)
-              → gross (g k) ≤ gross (positions_in longs₀ shorts₀ k)
-          less k (yes e) d own its rest = omega (arith, ap (λ (n : ℕ). gross (g n)) e, ap gross own)
-          less k (no n) (yes e) own its rest = omega (arith, ap (λ (n : ℕ). gross (g n)) e, ap gross its)
+          less : (k : ℕ) → Dec (k ≡ row) → Dec (k ≡ other) → positions_in both row ≡ empty → positions_in both other ≡ empty
+              → ((k : ℕ) → (k ≡ row → ⊥) → (k ≡ other → ⊥) → positions_in both k ≡ f k) → gross (positions_in both k) ≤ gross (positions_in amounts₀ k)
+          less k (yes e) d own its rest = omega (arith, ap (λ (n : ℕ). gross (positions_in both n)) e, ap gross own)
+          less k (no n) (yes e) own its rest = omega (arith, ap (λ (n : ℕ). gross (positions_in both n)) e, ap gross its)
           less k (no n) (no m) own its rest = omega (arith, ap gross (rest k n m), now.no_more k)
 
-    pub dropped-next : (other : ℕ) → other ≡ fit_for rows f row → {longs' shorts' : List ℕ}
-        → longs' ≡ cleared_in row other (length rows) longs → shorts' ≡ cleared_in row other (length rows) shorts → DroppedTo (row + 1) longs' shorts'
-    unfolding fit_for
-    dropped-next other is is_longs is_shorts = rw (is_longs, is_shorts, add-one row) (go (ℕ_discrete (gross (f row)) 0) (dec_lt other (length rows)))
-      where
-        go : Dec (gross (f row) ≡ 0) → Dec (other < length rows) → DroppedTo (suc row) (cleared_in row other (length rows) longs) (cleared_in row other (length rows) shorts)
-        go (yes gone) (yes within) =
-            let none : other ≡ length rows = is ∙ rw (eq-eqb (gross (f row)) 0 gone) in
-            let never : ⊥ = omega (arith, within, none) in
-            absurd never
-        go (yes gone) (no past') = rw (le-ltb other (length rows) (omega (arith, past'))) (same (gone_stays rows row h f gone))
-        go (no there) (yes within) =
-            rw (lt-ltb other (length rows) within) (both other there (sym (is ∙ rw (ne_eqb (gross (f row)) 0 there))) within)
-        go (no there) (no past') =
-            let found : other ≡ fit_from (leg_at rows f row) f (suc row) (drop (suc row) rows) = is ∙ rw (ne_eqb (gross (f row)) 0 there) in
-            let last = (fit_within (leg_at rows f row) f (suc row) (drop (suc row) rows)).1 in
-            rw (le-ltb other (length rows) (omega (arith, past'))) (same (none_stays rows row h f there (omega (arith, found, last, past', length-drop (suc row) rows))))
-
-  pub dropped-all : (row : ℕ) {longs shorts : List ℕ} → DroppedTo row longs shorts → length rows ≤ row → Dropped rows longs₀ shorts₀ longs shorts
+  pub dropped-all : (row : ℕ) {amounts : Amounts} → DroppedTo row amounts → length rows ≤ row → Dropped rows amounts₀ amounts
   unfolding standing_rows offset_from
-  dropped-all row {longs} {shorts} now past =
+  dropped-all row {amounts} now past =
       record {
-        tables = now.tables;
-        left =
-            rw (take_all row rows past, drop_of_length-le rows past, append-nil (standing_rows (positions_in longs shorts) 0 rows)) at now.left;
+        left = rw (take_all row rows past, drop_of_length-le rows past, append-nil (standing_rows (positions_in amounts) 0 rows)) at now.left;
         beyond = now.beyond;
         no_more = now.no_more;
       }

@@ -7,6 +7,7 @@ use Prim.Native.Nat.{ℕ, suc, ◌+◌, ◌≤◌, ◌<◌}
 use native.Mathlib.Decide.{ℕ_discrete}
 use native.Mathlib.Omega.{arith}
 use lib.ListN.{length}
+use Rattle.std.specs.Prelude.{Option, None, Some}
 use borrow.Author.Tests.{eqb-true}
 use Rattle.sums.proofs.Cases.{both}
 use Rattle.book.specs.declared.Row.{Row}
@@ -34,21 +35,21 @@ gone_fits leg row position some none = go (fits leg (holding row position)) refl
 
 -- ---- the search
 module _ (leg : Row) (f : Bands) where
-  -- it gives a number of the rows, or the one after the last
-  pub fit_within : (at : ℕ) (rows : List Row) → (at ≤ fit_from leg f at rows) × (fit_from leg f at rows ≤ at + length rows)
+  -- it finds one of the rows
+  pub fit_within : (at : ℕ) (rows : List Row) (other : ℕ) → fit_from leg f at rows ≡ Some other → (at ≤ other) × (other < at + length rows)
   unfolding fit_from
-  fit_within at [] = (omega arith, omega arith)
-  fit_within at (row ∷ rows) = go (fits leg (holding row (f at))) (fit_within (suc at) rows)
+  fit_within at [] other e = absurd (cc)
+  fit_within at (row ∷ rows) other e = go (fits leg (holding row (f at))) e (fit_within (suc at) rows other)
     where
-      rest : ℕ
+      rest : Option ℕ
       rest = fit_from leg f (suc at) rows
 
-      go : (test : Bool) → (suc at ≤ rest) × (rest ≤ suc at + length rows) → (at ≤ cond test at rest) × (cond test at rest ≤ at + length (row ∷ rows))
-      go true later = (omega arith, omega arith)
-      go false later = (omega (arith, later.0), omega (arith, later.1))
+      go : (test : Bool) → cond test (Some at) rest ≡ Some other → (rest ≡ Some other → (suc at ≤ other) × (other < suc at + length rows)) → (at ≤ other) × (other < at + length (row ∷ rows))
+      go true e later = let own : at ≡ other = cc in (omega arith, omega arith)
+      go false e later = (omega (arith, (later e).0), omega (arith, (later e).1))
 
   -- ---- none fits
-  pub none_found : (at : ℕ) (rows : List Row) → fit_from leg f at rows ≡ at + length rows → some_fits leg (standing_rows f at rows) ≡ false
+  pub none_found : (at : ℕ) (rows : List Row) → fit_from leg f at rows ≡ None → some_fits leg (standing_rows f at rows) ≡ false
   unfolding fit_from standing_rows some_fits
   none_found at [] e = refl
   none_found at (row ∷ rows) e = go (fits leg (holding row (f at))) refl e (none_found (suc at) rows)
@@ -60,19 +61,19 @@ module _ (leg : Row) (f : Bands) where
       with_row other none (yes gone) = rw (placed-none row (f at) more gone) none
       with_row other none (no there) = rw (placed-some row (f at) more there, other) none
 
-      go : (test : Bool) → fits leg (holding row (f at)) ≡ test → cond test at (fit_from leg f (suc at) rows) ≡ at + suc (length rows)
-          → (fit_from leg f (suc at) rows ≡ suc at + length rows → some_fits leg more ≡ false) → some_fits leg (placed row (f at) more) ≡ false
-      go true t e later = let never : ⊥ = omega arith in absurd never
-      go false t e later = with_row t (later (omega arith)) (ℕ_discrete (gross (f at)) 0)
+      go : (test : Bool) → fits leg (holding row (f at)) ≡ test → cond test (Some at) (fit_from leg f (suc at) rows) ≡ None
+          → (fit_from leg f (suc at) rows ≡ None → some_fits leg more ≡ false) → some_fits leg (placed row (f at) more) ≡ false
+      go true t e later = absurd (cc)
+      go false t e later = with_row t (later e) (ℕ_discrete (gross (f at)) 0)
 
   -- ---- one fits: it is the first, and is gone when its amounts are cleared
   module _ (some : gross (amounts_of leg) ≡ 0 → ⊥) (g : Bands) (other : ℕ) (cleared : gross (g other) ≡ 0) where
-    pub found_some : (at : ℕ) (rows : List Row) → fit_from leg f at rows ≡ other → other < at + length rows
+    pub found_some : (at : ℕ) (rows : List Row) → fit_from leg f at rows ≡ Some other
         → ((k : ℕ) → at ≤ k → (k ≡ other → ⊥) → g k ≡ f k)
         → (some_fits leg (standing_rows f at rows) ≡ true) × (without_fit leg (standing_rows f at rows) ≡ standing_rows g at rows)
     unfolding fit_from standing_rows some_fits without_fit
-    found_some at [] e h same = let never : ⊥ = omega arith in absurd never
-    found_some at (row ∷ rows) e h same = go (fits leg (holding row (f at))) refl e (λ e' h'. found_some (suc at) rows e' h' (λ k low. same k (omega arith)))
+    found_some at [] e same = absurd (cc)
+    found_some at (row ∷ rows) e same = go (fits leg (holding row (f at))) refl e (λ e'. found_some (suc at) rows e' (λ k low. same k (omega arith)))
       where
         more : List Row
         more = standing_rows f (suc at) rows
@@ -93,9 +94,9 @@ module _ (leg : Row) (f : Bands) where
         later t next (yes gone) = rw (placed-none row (f at) more gone, placed-none row (f at) left gone) next
         later t next (no there) = rw (placed-some row (f at) more there, placed-some row (f at) left there, t) (next.0, ap (λ (l : List Row). holding row (f at) ∷ l) next.1)
 
-        go : (test : Bool) → fits leg (holding row (f at)) ≡ test → cond test at (fit_from leg f (suc at) rows) ≡ other
-            → (fit_from leg f (suc at) rows ≡ other → other < suc at + length rows → Both more left) → Both (placed row (f at) more) (placed row (g at) left)
-        go true t e next = here t e (ℕ_discrete (gross (f at)) 0)
+        go : (test : Bool) → fits leg (holding row (f at)) ≡ test → cond test (Some at) (fit_from leg f (suc at) rows) ≡ Some other
+            → (fit_from leg f (suc at) rows ≡ Some other → Both more left) → Both (placed row (f at) more) (placed row (g at) left)
+        go true t e next = here t (cc) (ℕ_discrete (gross (f at)) 0)
         go false t e next =
-            let apart : at ≡ other → ⊥ = λ own. omega (arith, (fit_within (suc at) rows).0) in
-            rw (same at (omega arith) apart) (later t (next e (omega arith)) (ℕ_discrete (gross (f at)) 0))
+            let apart : at ≡ other → ⊥ = λ own. omega (arith, own, (fit_within (suc at) rows other e).0) in
+            rw (same at (omega arith) apart) (later t (next e) (ℕ_discrete (gross (f at)) 0))

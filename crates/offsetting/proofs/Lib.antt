@@ -1,4 +1,4 @@
--- Laws of the call: pairs found by their numbers and dropped in the tables are the pairs of the definition.
+-- Laws of the call: pairs found by their numbers and dropped are the pairs of the definition.
 pub mod Fits
 pub mod Searching
 pub mod Steps

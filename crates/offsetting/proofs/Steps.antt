@@ -8,6 +8,7 @@ use native.Mathlib.Decide.{ℕ_discrete}
 use native.Mathlib.Omega.{arith}
 use lib.ListN.{length, get_or, take, drop}
 use lib.Seq.{drop-cons, take-suc, length-take-le}
+use Rattle.std.specs.Prelude.{None, Some}
 use Rattle.book.specs.declared.Row.{Row}
 use Rattle.book.proofs.ClassRows.{no_row}
 use Rattle.ladder.specs.declared.positions.Position.{Position}
@@ -75,19 +76,19 @@ module _ (rows : List Row) (row : ℕ) (h : row < length rows) where
     pub gone_stays : gross (f row) ≡ 0 → left_from f (suc row) ≡ left_from f row
     gone_stays gone = stays (rw (placed-none own (f row) (after f) gone, placed-none own (f row) [] gone))
 
-    pub none_stays : (gross (f row) ≡ 0 → ⊥) → fit_from (leg_at rows f row) f (suc row) (drop (suc row) rows) ≡ suc row + length (drop (suc row) rows)
+    pub none_stays : (gross (f row) ≡ 0 → ⊥) → fit_from (leg_at rows f row) f (suc row) (drop (suc row) rows) ≡ None
         → left_from f (suc row) ≡ left_from f row
     none_stays there none =
         let no_one = none_found (leg_at rows f row) f (suc row) (drop (suc row) rows) none in
         stays (rw (placed-some own (f row) (after f) there, placed-some own (f row) [] there) (offset_next (leg_at rows f row) (after f) ∙ rw no_one))
 
   -- ---- the row is dropped with another
-  module _ (f g : Bands) (other : ℕ) (there : gross (f row) ≡ 0 → ⊥) (found : fit_from (leg_at rows f row) f (suc row) (drop (suc row) rows) ≡ other)
-      (within : other < suc row + length (drop (suc row) rows)) (beyond : row < other)
+  module _ (f g : Bands) (other : ℕ) (there : gross (f row) ≡ 0 → ⊥) (found : fit_from (leg_at rows f row) f (suc row) (drop (suc row) rows) ≡ Some other)
+      (beyond : row < other)
       (own-cleared : gross (g row) ≡ 0) (cleared : gross (g other) ≡ 0) (same : (k : ℕ) → (k ≡ row → ⊥) → (k ≡ other → ⊥) → g k ≡ f k) where
     pub pair_dropped : left_from g (suc row) ≡ left_from f row
     pair_dropped =
-        let fit = found_some (leg_at rows f row) f there g other cleared (suc row) (drop (suc row) rows) found within (λ k low apart. same k (λ e. omega arith) apart) in
+        let fit = found_some (leg_at rows f row) f there g other cleared (suc row) (drop (suc row) rows) found (λ k low apart. same k (λ e. omega arith) apart) in
         let few = length-take-le row rows (omega arith) in
         let earlier = standing-same g f 0 (take row rows) (λ k k-h. same (0 + k) (λ e. omega (arith, few)) (λ e. omega (arith, few))) in
         let kept : standing_rows g 0 (take (suc row) rows) ≡ before f = up_to g ∙ ap₂ ◌++◌ earlier (placed-none own (g row) [] own-cleared) ∙ append-nil (before f) in

@@ -3,8 +3,7 @@ use Rattle.std.specs.Prelude.{ℕ, List, length}
 use Rattle.book.specs.declared.Refusal.{Refusal}
 use Rattle.layout.specs.Files.{book_by}
 use Rattle.layout.specs.Room.{or_next, room_refusal, output_of}
-use Rattle.netting.specs.declared.Netted.{Netted}
-use Rattle.netting.specs.Netted.{issues_refusal, netted_class, comparisons_of, netted_answer}
+use Rattle.netting.specs.Netted.{Netted, issues_refusal, netted_class, comparisons_of, netted_answer}
 use Rattle.offsetting.specs.Offset.{offset_by}
 
 -- the netted rows without the pairs that fit: issues come first (P3)

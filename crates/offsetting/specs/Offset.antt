@@ -4,9 +4,8 @@ use Rattle.book.specs.declared.Row.{Row}
 use Rattle.book.specs.declared.Refusal.{Refusal}
 use Rattle.book.specs.Legs.{legs_of, of_class}
 use Rattle.book.specs.Refusals.{refusal_of}
-use Rattle.layout.specs.declared.Written.{Written}
 use Rattle.layout.specs.Files.{book_by}
-use Rattle.layout.specs.Room.{or_next, room_refusal, written_of, output_of}
+use Rattle.layout.specs.Room.{Written, or_next, room_refusal, written_of, output_of}
 use Rattle.swaps.specs.Offset.{offset_rows}
 
 -- of the rows of each class the interest rows are offset; all others stay (P2)

@@ -5,87 +5,48 @@ mod fitting;
 mod pairs;
 
 ghost use Rattle.std.specs.Prelude.{◌≡◌, length as len};
-ghost use Rattle.book.specs.Counts.{counts_of};
 ghost use Rattle.book.specs.Legs.{legs_of, of_class};
-ghost use Rattle.book.specs.Accepted.{Accepted};
-ghost use Rattle.amounts.specs.Inner.Standing.{Tables};
+ghost use Rattle.layout.specs.Room.{written_answer};
+ghost use Rattle.netting.specs.Netted.{netting_answer};
 ghost use Rattle.offsetting.specs.Offset.{offset_of, offsetting_output};
 ghost use Rattle.offsetting.specs.NetOffset.{net_offset_of, net_offset_output};
 ghost use Rattle.offsetting.specs.Inner.Pairs.{Dropped};
 
-use book::{Counts, MOST_ROWS};
-use layout::Written;
+use amounts::Amounts;
+use book::{Book, Refused};
 use netting::Netted;
 
 // Writes the book without the pairs that fit at the start of out; bytes past it keep their values, and all do where offsetting is refused.
-pub fn offset(book: &[u8], out: &mut [u8]) -> Written
-    ensures { (result ≡ offset_of book.now (len out.old)) × (out.new ≡ offsetting_output book.now out.old) }
+pub fn offset(book: &[u8], out: &mut [u8]) -> Result<usize, Refused>
+    ensures answer { written_answer result ≡ offset_of book.now (len out.old) }
+    ensures output { out.new ≡ offsetting_output book.now out.old }
 {
-    let checked = book::read(book);
-    let refusal = checked.refusal;
-    if refusal.number != 0 {
-        return Written { refusal, length: 0 };
-    }
-    offset_accepted(book, checked.counts, out)
-}
-
-// Drops the pairs of interest rows that fit, with the amounts that stand in the tables.
-fn drop_interest(
-    book: &[u8],
-    counts: Counts,
-    longs: &mut [u64; MOST_ROWS],
-    shorts: &mut [u64; MOST_ROWS],
-)
-    requires { (counts ≡ counts_of book.now) × Accepted book.now × Tables longs.old shorts.old }
-    ensures { Dropped (of_class 1 (legs_of book.now)) longs.old shorts.old longs.new shorts.new }
-{
-    pairs::drop_pairs(book::body(book, counts, 1), longs, shorts);
-}
-
-// Offsets an accepted book: 12 is tried before a byte is written.
-fn offset_accepted(book: &[u8], counts: Counts, out: &mut [u8]) -> Written
-    requires { (counts ≡ counts_of book.now) × Accepted book.now }
-    ensures { (result ≡ offset_of book.now (len out.old)) × (out.new ≡ offsetting_output book.now out.old) }
-{
-    let mut longs = [0u64; MOST_ROWS];
-    let mut shorts = [0u64; MOST_ROWS];
-    amounts::own::own_amounts(book, counts, &mut longs, &mut shorts);
-    drop_interest(book, counts, &mut longs, &mut shorts);
-    amounts::write_book(book, counts, &longs, &shorts, out)
+    let book = book::read(book)?;
+    let mut amounts = Amounts::none();
+    amounts::own::own_amounts(book, &mut amounts);
+    drop_interest(book, &mut amounts);
+    amounts::write_book(book, &amounts, out)
 }
 
 // Writes the netted book without the pairs that fit at the start of out; bytes past it keep their values, and all do where the call is refused.
-pub fn net_and_offset(book: &[u8], out: &mut [u8]) -> Netted
-    ensures { (result ≡ net_offset_of book.now (len out.old)) × (out.new ≡ net_offset_output book.now out.old) }
+pub fn net_and_offset(book: &[u8], out: &mut [u8]) -> Result<Netted, Refused>
+    ensures answer { netting_answer result ≡ net_offset_of book.now (len out.old) }
+    ensures output { out.new ≡ net_offset_output book.now out.old }
 {
-    let checked = book::read(book);
-    if checked.refusal.number != 0 {
-        return netting::refused(checked.refusal);
-    }
-    net_and_offset_accepted(book, checked.counts, out)
+    let book = book::read(book)?;
+    let mut amounts = Amounts::none();
+    let comparisons = netting::settle(book, &mut amounts)?;
+    drop_interest(book, &mut amounts);
+    let length = amounts::write_book(book, &amounts, out)?;
+    Ok(Netted {
+        length,
+        comparisons,
+    })
 }
 
-// Nets an accepted book and offsets the netted rows: 13, 14 and 12 are tried before a byte is written.
-fn net_and_offset_accepted(book: &[u8], counts: Counts, out: &mut [u8]) -> Netted
-    requires { (counts ≡ counts_of book.now) × Accepted book.now }
-    ensures { (result ≡ net_offset_of book.now (len out.old)) × (out.new ≡ net_offset_output book.now out.old) }
+// Drops the pairs of interest rows that fit, with the amounts that stand at their numbers.
+fn drop_interest(book: Book<'_>, amounts: &mut Amounts)
+    ensures { Dropped (of_class 1 (legs_of book.entry.bytes.now)) amounts.old amounts.new }
 {
-    let mut longs = [0u64; MOST_ROWS];
-    let mut shorts = [0u64; MOST_ROWS];
-    let sums = netting::settle(book, counts, &mut longs, &mut shorts);
-    let refusal = sums.refusal;
-    if refusal.number != 0 {
-        return netting::refused(refusal);
-    }
-    drop_interest(book, counts, &mut longs, &mut shorts);
-    let written = amounts::write_book(book, counts, &longs, &shorts, out);
-    let room = written.refusal;
-    if room.number != 0 {
-        return netting::refused(room);
-    }
-    Netted {
-        refusal: room,
-        length: written.length,
-        comparisons: sums.compared,
-    }
+    pairs::drop_pairs(book.body(1), amounts);
 }

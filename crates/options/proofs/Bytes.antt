@@ -1,26 +1,32 @@
 -- The rows of a class that options give, and their bytes: one option more, how many they are, and how they are written one by one.
 -- Assumes nothing.
-use mathlib.Core.Path.{◌≡◌, refl, sym, ap, ◌∙◌}
+use mathlib.Core.Path.{◌≡◌, refl, sym, ap}
 use mathlib.Core.Bool.{Bool, true, false, cond, not, ◌&&◌}
-use mathlib.Core.List.{List, [], ◌∷◌, ◌++◌, map, flat_map, append-nil, append_assoc}
-use Prim.Native.Nat.{ℕ, ◌+◌, ◌-◌, ◌*◌, ◌≤◌, ◌<◌}
+use mathlib.Core.List.{List, [], ◌∷◌, ◌++◌, flat_map, append-nil, append_assoc}
+use Prim.Native.Nat.{ℕ, zero, suc, ◌+◌, ◌-◌, ◌*◌, ◌≤◌, ◌<◌}
+use native.Mathlib.Nat.{add-zero, add-suc}
+use native.Mathlib.Numerals.{add-one}
 use native.Mathlib.Omega.{arith}
 use lib.Dec.{eqb}
 use lib.ListN.{length, length-append}
-use Rattle.sums.specs.Sums.{sum_of, span}
-use Rattle.sums.proofs.Spans.{sum_grows, sum_room}
+use Rattle.sums.specs.Sums.{span}
 use Rattle.book.specs.declared.Row.{Row}
 use Rattle.book.specs.Counts.{row_size}
 use Rattle.book.specs.Legs.{of_class}
 use Rattle.layout.specs.Files.{row_bytes}
 use Rattle.layout.specs.Written.{written}
-use Rattle.layout.proofs.Rows.{rows_length}
-use Rattle.layout.proofs.Writing.{written-nothing, written-more, written-length}
-use Rattle.options.specs.Table.{OptionRow, option_at, options_of}
+use Rattle.layout.proofs.Rows.{row_length, rows_length}
+use Rattle.layout.proofs.Writing.{written-nothing, written-more}
+use Rattle.options.specs.Table.{OptionRow, option_count, option_at, options_of}
 use Rattle.options.specs.Delta.{delta_leg, delta_legs}
-use Rattle.options.specs.Inner.Reading.{Whole, options_to}
+use Rattle.options.specs.Inner.Reading.{options_to}
 use Rattle.options.specs.Inner.Writing.{gives_row, delta_rows, delta_bytes}
 use Rattle.options.proofs.Walking.{to_next, to_all}
+
+flat_map_append : {A : Type 0} (f : A → List ℕ) (xs ys : List A) → flat_map f (xs ++ ys) ≡ flat_map f xs ++ flat_map f ys
+unfolding flat_map
+flat_map_append f [] ys = refl
+flat_map_append f (x ∷ xs) ys = rw (flat_map_append f xs ys) (sym (append_assoc (f x) (flat_map f xs) (flat_map f ys)))
 
 module _ (class : ℕ) where
   -- ---- one option
@@ -46,109 +52,78 @@ module _ (class : ℕ) where
   unfolding delta_rows delta_legs of_class
   rows_none = refl
 
-  module _ (option : OptionRow) where
-    pub bytes_none : gives_row class option ≡ false → delta_bytes class (option ∷ []) ≡ []
-    unfolding delta_bytes flat_map
-    bytes_none no_row = rw (rows_one option [], no_row, rows_none)
+  -- ---- one option more
+  pub rows_next : (options : List OptionRow) (option : OptionRow)
+      → delta_rows class (options ++ (option ∷ [])) ≡ delta_rows class options ++ cond (gives_row class option) ((delta_leg option).row ∷ []) []
+  rows_next [] option = rw (rows_one option [], rows_none)
+  rows_next (first ∷ options) option =
+      rw (rows_one first (options ++ (option ∷ [])), rows_one first options, rows_next options option) (go (gives_row class first) (delta_rows class options) _)
+    where
+      go : (gives : Bool) (rows more : List Row) → cond gives ((delta_leg first).row ∷ (rows ++ more)) (rows ++ more) ≡ cond gives ((delta_leg first).row ∷ rows) rows ++ more
+      go true rows more = refl
+      go false rows more = refl
 
-    pub bytes_some : gives_row class option ≡ true → delta_bytes class (option ∷ []) ≡ row_bytes (delta_leg option).row
-    unfolding delta_bytes flat_map
-    bytes_some row = rw (rows_one option [], row, rows_none) (append-nil (row_bytes (delta_leg option).row))
-
-    -- and more after it
-    bytes_then : (options : List OptionRow) → delta_bytes class (option ∷ options) ≡ delta_bytes class (option ∷ []) ++ delta_bytes class options
-    unfolding delta_bytes flat_map
-    bytes_then options = rw (rows_one option options, rows_one option [], rows_none) (go (gives_row class option))
-      where
-        go : (gives : Bool) → flat_map row_bytes (cond gives ((delta_leg option).row ∷ delta_rows class options) (delta_rows class options))
-            ≡ flat_map row_bytes (cond gives ((delta_leg option).row ∷ []) []) ++ flat_map row_bytes (delta_rows class options)
-        go true = ap (λ (bytes : List ℕ). bytes ++ flat_map row_bytes (delta_rows class options)) (sym (append-nil (row_bytes (delta_leg option).row)))
-        go false = refl
-
-  no_bytes : delta_bytes class [] ≡ []
-  unfolding delta_bytes flat_map
-  no_bytes = rw rows_none
-
-  bytes_append : (options more : List OptionRow) → delta_bytes class (options ++ more) ≡ delta_bytes class options ++ delta_bytes class more
-  bytes_append [] more = ap (λ (bytes : List ℕ). bytes ++ delta_bytes class more) (sym no_bytes)
-  bytes_append (option ∷ options) more =
-      bytes_then option (options ++ more)
-      ∙ ap (λ (bytes : List ℕ). delta_bytes class (option ∷ []) ++ bytes) (bytes_append options more)
-      ∙ sym (append_assoc (delta_bytes class (option ∷ [])) (delta_bytes class options) (delta_bytes class more))
-      ∙ ap (λ (bytes : List ℕ). bytes ++ delta_bytes class more) (sym (bytes_then option options))
-
-  -- ---- how many
+  -- and its bytes
   pub bytes_length : (options : List OptionRow) → length (delta_bytes class options) ≡ row_size * length (delta_rows class options)
   unfolding delta_bytes
   bytes_length options = rows_length (delta_rows class options)
 
-  abbrev pub one_row : OptionRow → ℕ
-  one_row option = cond (gives_row class option) 1 0
-
-  module _ (s : List ℕ) where
-    pub rows_many : (numbers : List ℕ) → length (delta_rows class (map (option_at s) numbers)) ≡ sum_of (λ k. one_row (option_at s k)) numbers
-    unfolding sum_of
-    rows_many [] = ap length rows_none
-    rows_many (k ∷ numbers) = rw (rows_one (option_at s k) (map (option_at s) numbers)) (go (gives_row class (option_at s k)) (delta_rows class (map (option_at s) numbers)) (rows_many numbers))
+  module _ (s : List ℕ) (row : ℕ) where
+    pub count_next : length (delta_rows class (options_to s (row + 1))) ≡ length (delta_rows class (options_to s row)) + cond (gives_row class (option_at s row)) 1 0
+    count_next = rw (to_next s row, rows_next, length-append) (go (gives_row class (option_at s row)))
       where
-        go : (gives : Bool) (rows : List Row) {sum : ℕ} → length rows ≡ sum
-            → length (cond gives ((delta_leg (option_at s k)).row ∷ rows) rows) ≡ cond gives 1 0 + sum
-        go true rows e = omega arith
-        go false rows e = omega arith
+        go : (gives : Bool) → length (delta_rows class (options_to s row)) + length (cond gives ((delta_leg (option_at s row)).row ∷ []) []) ≡ length (delta_rows class (options_to s row)) + cond gives 1 0
+        go true = refl
+        go false = refl
 
-    -- ---- written one by one
-    pub record Rows (many at : ℕ) (out₀ out : List ℕ) (end row : ℕ) : Type 0 where
-      pub within : row ≤ many
-      pub is_end : end ≡ at + length (delta_bytes class (options_to s row))
-      pub so_far : out ≡ written out₀ at (delta_bytes class (options_to s row))
+    pub bytes_same : gives_row class (option_at s row) ≡ false → delta_bytes class (options_to s (row + 1)) ≡ delta_bytes class (options_to s row)
+    unfolding delta_bytes
+    bytes_same none = ap (flat_map row_bytes) (rw (to_next s row, rows_next, none) (append-nil _))
 
-    module _ (many at : ℕ) (out₀ : List ℕ) (whole : Whole s many) (fits : at + length (delta_bytes class (options_of s)) ≤ length out₀) where
-      pub no_rows : Rows many at out₀ out₀ at 0
-      unfolding delta_bytes flat_map span
-      no_rows = record { within = omega arith; is_end = rw rows_none (omega arith); so_far = rw rows_none (sym (written-nothing out₀ at)) }
+    pub bytes_more : gives_row class (option_at s row) ≡ true
+        → delta_bytes class (options_to s (row + 1)) ≡ delta_bytes class (options_to s row) ++ row_bytes (delta_leg (option_at s row)).row
+    unfolding delta_bytes flat_map
+    bytes_more some = rw (to_next s row, rows_next, some, flat_map_append) (rw append-nil)
 
-      size_to : (n : ℕ) → length (delta_bytes class (options_to s n)) ≡ row_size * sum_of (λ k. one_row (option_at s k)) (span 0 n)
-      size_to n = bytes_length (options_to s n) ∙ ap (λ (rows : ℕ). row_size * rows) (rows_many (span 0 n))
+  pub count_none : (s : List ℕ) → 0 ≡ length (delta_rows class (options_to s 0))
+  unfolding span
+  count_none s = rw rows_none
 
-      size_one : (option : OptionRow) → length (delta_bytes class (option ∷ [])) ≡ row_size * one_row option
-      size_one option = bytes_length (option ∷ []) ∙ ap (λ (rows : ℕ). row_size * rows) (rw (rows_one option [], rows_none) (go (gives_row class option)))
-        where
-          go : (gives : Bool) → length (cond gives ((delta_leg option).row ∷ []) []) ≡ cond gives 1 0
-          go true = refl
-          go false = refl
+  -- as many rows as there are in the end, or fewer
+  count_grows : (s : List ℕ) (row more : ℕ) → length (delta_rows class (options_to s row)) ≤ length (delta_rows class (options_to s (row + more)))
+  count_grows s row zero = rw add-zero (omega arith)
+  count_grows s row (suc more) = rw (add-suc, ← add-one (row + more)) (omega (arith, count_next s (row + more), count_grows s row more))
 
-      all_fit : at + row_size * sum_of (λ k. one_row (option_at s k)) (span 0 many) ≤ length out₀
-      all_fit =
-          let all = to_all s {row = many} whole (omega arith) (omega arith) in
-          omega (arith, fits, ap (λ (options : List OptionRow). length (delta_bytes class options)) all, size_to many)
+  -- ---- written one by one
+  pub record Rows (s : List ℕ) (at : ℕ) (out₀ out : List ℕ) (end row : ℕ) : Type 0 where
+    pub is_end : end ≡ at + length (delta_bytes class (options_to s row))
+    pub so_far : out ≡ written out₀ at (delta_bytes class (options_to s row))
 
-      module _ {out : List ℕ} {end row : ℕ} (done : Rows many at out₀ out end row) where
-        so_far_fits : at + length (delta_bytes class (options_to s row)) ≤ length out₀
-        so_far_fits =
-            let counted : ℕ → ℕ = λ k. one_row (option_at s k) in
-            let rest : row + (many - row) ≡ many = omega (arith, done.within) in
-            omega (arith, size_to row, all_fit, ap (λ (n : ℕ). sum_of counted (span 0 n)) rest, sum_grows counted row (many - row))
+  module _ (s : List ℕ) (at : ℕ) (out₀ : List ℕ) where
+    pub no_rows : Rows s at out₀ out₀ at 0
+    unfolding delta_bytes flat_map span
+    no_rows = record { is_end = rw rows_none (omega arith); so_far = rw rows_none (sym (written-nothing out₀ at)) }
 
-        pub same_room : length out ≡ length out₀
-        same_room = ap length done.so_far ∙ written-length out₀ (delta_bytes class (options_to s row)) at so_far_fits
+    module _ {out : List ℕ} {end row : ℕ} (done : Rows s at out₀ out end row) where
+      pub row_fits : at + length (delta_bytes class (options_of s)) ≤ length out₀ → row < option_count s → gives_row class (option_at s row) ≡ true → end + row_size ≤ length out₀
+      row_fits fits more some =
+          let rest : row + 1 + (option_count s - (row + 1)) ≡ option_count s = omega arith in
+          let grown : length (delta_rows class (options_to s (row + 1))) ≤ length (delta_rows class (options_of s)) = rw (rest, to_all s refl) at (count_grows s (row + 1) (option_count s - (row + 1))) in
+          let one : length (delta_rows class (options_to s (row + 1))) ≡ length (delta_rows class (options_to s row)) + 1 = rw some at (count_next s row) in
+          omega (arith, fits, done.is_end, bytes_length (options_of s), bytes_length (options_to s row), grown, one)
 
-        module _ (more : row < many) {option : OptionRow} (own : option ≡ option_at s row) where
-          pub one_fits : end + length (delta_bytes class (option ∷ [])) ≤ length out₀
-          one_fits =
-              rw own (omega (arith, done.is_end, size_to row, size_one (option_at s row), all_fit, sum_room (λ k. one_row (option_at s k)) row many more))
+      pub row_passed : gives_row class (option_at s row) ≡ false → Rows s at out₀ out end (row + 1)
+      row_passed none = let same = bytes_same s row none in record { is_end = rw same done.is_end; so_far = rw same done.so_far }
 
-          pub one_more : {out' : List ℕ} {end' : ℕ} → end' ≡ end + length (delta_bytes class (option ∷ [])) → out' ≡ written out end (delta_bytes class (option ∷ []))
-              → Rows many at out₀ out' end' (row + 1)
-          one_more ends writes =
-              let next : delta_bytes class (options_to s (row + 1)) ≡ delta_bytes class (options_to s row) ++ delta_bytes class (option ∷ []) =
-              rw (to_next s row, own) (bytes_append (options_to s row) (option_at s row ∷ [])) in
-              record {
-                within = omega arith;
-                is_end = ends ∙ rw (next, length-append) (omega (arith, done.is_end));
-                so_far = written-more out₀ (delta_bytes class (options_to s row)) (delta_bytes class (option ∷ [])) at end done.so_far writes done.is_end one_fits ∙ rw next;
-              }
+      pub row_written : gives_row class (option_at s row) ≡ true → end + row_size ≤ length out₀
+          → {out' : List ℕ} → out' ≡ written out end (row_bytes (delta_leg (option_at s row)).row) → Rows s at out₀ out' (end + row_size) (row + 1)
+      row_written some fits writes =
+          let more = bytes_more s row some in
+          let size = row_length (delta_leg (option_at s row)).row in
+          record {
+            is_end = rw (more, length-append) (omega (arith, done.is_end, size));
+            so_far = rw more (written-more out₀ _ _ at end done.so_far writes done.is_end (omega (arith, fits, size)));
+          }
 
-        pub all_rows : many ≤ row → (end ≡ at + length (delta_bytes class (options_of s))) × (out ≡ written out₀ at (delta_bytes class (options_of s)))
-        all_rows past =
-            let all = to_all s whole done.within past in
-            (done.is_end ∙ rw all, done.so_far ∙ rw all)
+      pub all_rows : row ≡ option_count s → (end ≡ at + length (delta_bytes class (options_of s))) × (out ≡ written out₀ at (delta_bytes class (options_of s)))
+      all_rows last = let all = to_all s last in (rw (← all) done.is_end, rw (← all) done.so_far)

@@ -90,6 +90,26 @@ sized_table : (s : List ℕ) → TableSized s → length_refused s ≡ false
 unfolding length_refused
 sized_table s table = simp (le-ltb _ _ table.counted, le-ltb _ _ table.few, eq-eqb _ _ table.sized)
 
+-- 16, and past it
+pub wrong_length : (s : List ℕ) → (cond {A = ℕ} (length_refused s) 16 0 ≡ 0 → ⊥) → options_refusal s ≡ refused (cond (length_refused s) 16 0) 0
+unfolding options_refusal
+wrong_length s = go (length_refused s)
+  where
+    go : (test : Bool) → (cond {A = ℕ} test 16 0 ≡ 0 → ⊥) → cond test (refused 16 0) (first_outside 0 (options_of s)) ≡ refused (cond test 16 0) 0
+    go true some = refl
+    go false some = absurd (some refl)
+
+pub right_length : (s : List ℕ) → cond {A = ℕ} (length_refused s) 16 0 ≡ 0 → length_refused s ≡ false
+right_length s = go (length_refused s)
+  where
+    go : (test : Bool) → cond {A = ℕ} test 16 0 ≡ 0 → test ≡ false
+    go true e = let never : ⊥ = omega arith in absurd never
+    go false e = refl
+
+pub past_length : (s : List ℕ) → length_refused s ≡ false → options_refusal s ≡ first_outside 0 (options_of s)
+unfolding options_refusal
+past_length s sized = simp sized
+
 -- a table that passes 16 and 17, and back
 pub accepted_options : (s : List ℕ) → (options_refusal s).number ≡ 0 → AcceptedOptions s
 unfolding options_refusal refused

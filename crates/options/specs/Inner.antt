@@ -2,4 +2,3 @@
 pub mod Reading
 pub mod Writing
 pub mod Sums
-pub mod Answers

@@ -1,14 +1,26 @@
 -- What the call gives of an option table (P9): the book of the deltas, gamma and vega by class, and what the book costs.
-use Rattle.std.specs.Prelude.{ℕ, cond, List, [], ◌∷◌, map, eqb, length}
+use Rattle.std.specs.Prelude.{ℕ, cond, List, [], ◌∷◌, map, eqb, length, replicate, Result, Ok, Err}
 use Rattle.book.specs.declared.Refusal.{Refusal}
+use Rattle.book.specs.Refusals.{refused}
+use Rattle.book.specs.declared.Refused.{Refused}
+use Rattle.book.specs.Reasons.{numbers_of}
 use Rattle.layout.specs.Room.{or_next, room_refusal, figure_of, output_of}
 use Rattle.table.specs.Loaded.{standard_bytes}
+use Rattle.charges.specs.declared.Report.{Report}
 use Rattle.charges.specs.Report.{refused_report, report_of}
 use Rattle.options.specs.Table.{OptionRow, options_of}
 use Rattle.options.specs.Refusals.{options_refusal}
 use Rattle.options.specs.Delta.{delta_book}
 use Rattle.options.specs.Greeks.{gamma_charge, vega_charge}
-pub use Rattle.options.specs.declared.Priced.{Priced}
+use Rattle.options.specs.declared.Priced.{Priced as Figures}
+
+-- what the call tells: why it is refused, all zero where it is not; the length of the book, gamma and vega by class, and the report of the book (P9)
+pub record Priced : Type 0 where
+  pub refusal : Refusal
+  pub length : ℕ
+  pub gammas : List ℕ
+  pub vegas : List ℕ
+  pub report : Report
 
 -- options are on equity, foreign exchange and commodities (P9)
 abbrev pub option_classes : List ℕ
@@ -37,6 +49,17 @@ priced_of s room =
       vegas = by_class refusal vega_charge (options_of s);
       report = cond (eqb refusal.number 0) (report_of standard_bytes (options_book s)) (refused_report refusal);
     }
+
+-- the answer of a refused call: all zero but the refusal (P9)
+unfoldable pub refused_pricing : Refusal → Priced
+refused_pricing refusal =
+    record { refusal = refusal; length = 0; gammas = replicate 3 0; vegas = replicate 3 0; report = refused_report refusal }
+
+-- an answer as such a record (P9)
+unfoldable pub priced_answer : Result Figures Refused → Priced
+priced_answer (Ok priced) =
+    record { refusal = refused 0 0; length = priced.length; gammas = priced.gammas; vegas = priced.vegas; report = priced.report }
+priced_answer (Err r) = refused_pricing (numbers_of r)
 
 -- the output afterwards (P9)
 unfoldable pub pricing_output : List ℕ → List ℕ → List ℕ

@@ -1,136 +1,117 @@
 // The book of the options' deltas: one row for each option whose delta is not 0.
-ghost use Rattle.std.specs.Prelude.{◌≡◌, cond, [], ◌∷◌, ◌+◌, ◌≤◌, length};
+ghost use Rattle.std.specs.Prelude.{◌≡◌, ◌+◌, ◌*◌, ◌≤◌, length};
+ghost use Rattle.book.specs.Counts.{contents_size, row_size, count_of_rows};
 ghost use Rattle.layout.specs.Written.{written};
 ghost use Rattle.options.specs.Table.{options_of};
 ghost use Rattle.options.specs.Delta.{is_long, delta_amount, delta_leg};
 ghost use Rattle.options.specs.Options.{options_book};
 ghost use Rattle.options.specs.Accepted.{Allowed};
-ghost use Rattle.options.specs.Inner.Reading.{Taken};
-ghost use Rattle.options.specs.Inner.Writing.{row_with, gives_row, delta_rows, delta_bytes, delta_counts, CanWriteRows, CanWrite};
+ghost use Rattle.options.specs.Inner.Writing.{gives_row, delta_rows, delta_bytes, delta_counts};
 
-use crate::{OptionRow, rows};
+use crate::rows::OptionTable;
+use crate::{CLASSES, OptionRow};
 use book::{CONTENTS_SIZE, Counts, ROW_SIZE, Row};
 
-fn is_long(option: OptionRow) -> bool
-    ensures { result ≡ is_long option }
-{
-    if option.right == 0 {
-        return true;
+impl OptionRow {
+    // Bought calls and sold puts are long.
+    #[tactic(auto, unfolding(crate::specs::Delta::is_long))]
+    fn is_long(self) -> bool
+        ensures { result ≡ is_long self }
+    {
+        self.right == 0 || self.right == 3
     }
-    option.right == 3
-}
 
-// The amount times delta, rounded up to a whole unit.
-fn delta_amount(option: OptionRow) -> u32
-    requires { Allowed option }
-    ensures { result ≡ delta_amount option }
-{
-    (((option.amount as u64) * (option.delta as u64) + 9999) / 10000) as u32
-}
-
-fn row_with(option: OptionRow, long: u32, short: u32) -> Row
-    ensures { result ≡ row_with option long short }
-{
-    Row {
-        group: option.group,
-        kind: option.kind,
-        days: option.days,
-        coupon: 0,
-        issue: 0,
-        long,
-        short,
+    // The amount times delta, rounded up to a whole unit. The cast narrows, and is proved to lose
+    // nothing.
+    fn delta_amount(self) -> u32
+        requires { Allowed self }
+        ensures { result ≡ delta_amount self }
+    {
+        (u64::from(self.amount) * u64::from(self.delta)).div_ceil(10_000) as u32
     }
-}
 
-fn delta_row(option: OptionRow) -> Row
-    requires { Allowed option }
-    ensures { result ≡ (delta_leg option).row }
-{
-    let amount = delta_amount(option);
-    if is_long(option) {
-        return row_with(option, amount, 0);
+    // Its row in the book: the amount on its side.
+    #[tactic(auto, unfolding(crate::specs::Delta::delta_leg))]
+    fn delta_row(self) -> Row
+        requires { Allowed self }
+        ensures { result ≡ (delta_leg self).row }
+    {
+        let amount = self.delta_amount();
+        let (long, short) = if self.is_long() {
+            (amount, 0)
+        } else {
+            (0, amount)
+        };
+        Row {
+            group: self.group,
+            kind: self.kind,
+            days: self.days,
+            coupon: 0,
+            issue: 0,
+            long,
+            short,
+        }
     }
-    row_with(option, 0, amount)
-}
 
-// Whether an option gives a row of a class.
-fn gives_row(option: OptionRow, class: u8) -> bool
-    ensures { result ≡ gives_row class option }
-{
-    if option.class != class {
-        return false;
+    // Whether it gives a row of a class.
+    #[tactic(auto, unfolding(crate::specs::Inner::Writing::gives_row))]
+    fn gives_row(self, class: u8) -> bool
+        ensures { result ≡ gives_row class self }
+    {
+        self.class == class && self.delta != 0
     }
-    option.delta != 0
-}
-
-// 1 for an option that gives a row of a class, else 0.
-fn one_row(option: OptionRow, class: u8) -> u16
-    ensures { (result ≡ cond (gives_row class option) 1 0) × (result ≤ 1) }
-{
-    if gives_row(option, class) { 1 } else { 0 }
 }
 
 // The rows of a class.
-fn class_count(table: &[u8], many: usize, class: u8) -> u16
-    requires { Taken table.now many }
-    ensures { result ≡ length (delta_rows class (options_of table.now)) }
+fn class_count(table: OptionTable<'_>, class: u8) -> u16
+    ensures { result ≡ length (delta_rows class (options_of table.entry.bytes.now)) }
 {
     let mut count: u16 = 0;
-    let mut row: usize = 0;
-    while row < many {
-        count += one_row(rows::option_at(table, row), class);
-        row += 1;
+    for row in 0..table.len() {
+        count += u16::from(table.option(row).gives_row(class));
     }
     count
 }
 
 // The rows of each class; none are of interest.
-pub fn counts(table: &[u8], many: usize) -> Counts
-    requires { Taken table.now many }
-    ensures { result ≡ delta_counts (options_of table.now) }
+pub fn counts(table: OptionTable<'_>) -> Counts
+    ensures { result ≡ delta_counts (options_of table.entry.bytes.now) }
 {
+    let [equity, exchange, commodity] = CLASSES.map(|class| class_count(table, class));
     Counts {
         interest: 0,
-        equity: class_count(table, many, 2),
-        exchange: class_count(table, many, 3),
-        commodity: class_count(table, many, 4),
+        equity,
+        exchange,
+        commodity,
     }
-}
-
-// Writes the row of an option, if it gives one of the class, and says where it ends.
-fn write_option(option: OptionRow, class: u8, out: &mut [u8], at: usize) -> usize
-    requires { Allowed option × (at + length (delta_bytes class (option ∷ [])) ≤ length out.old) }
-    ensures { (result ≡ at + length (delta_bytes class (option ∷ []))) × (out.new ≡ written out.old at (delta_bytes class (option ∷ []))) }
-{
-    if gives_row(option, class) {
-        layout::fields::write_row(delta_row(option), out, at);
-        return at + ROW_SIZE;
-    }
-    at
 }
 
 // Writes the rows of a class, and says where they end.
-fn write_class(table: &[u8], many: usize, class: u8, out: &mut [u8], at: usize) -> usize
-    requires { CanWriteRows table.now many class at (length out.old) }
-    ensures value { result ≡ at + length (delta_bytes class (options_of table.now)) }
-    ensures out_after { out.new ≡ written out.old at (delta_bytes class (options_of table.now)) }
+fn write_class(table: OptionTable<'_>, class: u8, out: &mut [u8], at: usize) -> usize
+    requires { at + length (delta_bytes class (options_of table.bytes.now)) ≤ length out.old }
+    ensures value { result ≡ at + length (delta_bytes class (options_of table.entry.bytes.now)) }
+    ensures out_after { out.new ≡ written out.old at (delta_bytes class (options_of table.entry.bytes.now)) }
 {
-    let mut end: usize = at;
-    let mut row: usize = 0;
-    while row < many {
-        end = write_option(rows::option_at(table, row), class, out, end);
-        row += 1;
+    let mut end = at;
+    for row in 0..table.len() {
+        let option = table.option(row);
+        if option.gives_row(class) {
+            layout::fields::write_row(option.delta_row(), out, end);
+            end += ROW_SIZE;
+        }
     }
     end
 }
 
 // Writes the contents, and the rows class by class.
-pub fn write_book(table: &[u8], many: usize, counts: Counts, out: &mut [u8])
-    requires { CanWrite table.now many counts (length out.old) }
-    ensures { out.new ≡ written out.old 0 (options_book table.now) }
+pub fn write_book(table: OptionTable<'_>, counts: Counts, out: &mut [u8])
+    requires own { counts ≡ delta_counts (options_of table.bytes.now) }
+    requires fits { contents_size + row_size * count_of_rows counts ≤ length out.old }
+    ensures { out.new ≡ written out.old 0 (options_book table.entry.bytes.now) }
 {
     layout::contents::write_contents(counts, out);
-    let exchange = write_class(table, many, 2, out, CONTENTS_SIZE);
-    let commodity = write_class(table, many, 3, out, exchange);
-    write_class(table, many, 4, out, commodity);
+    let mut end = CONTENTS_SIZE;
+    for class in CLASSES {
+        end = write_class(table, class, out, end);
+    }
 }

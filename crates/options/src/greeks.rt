@@ -1,15 +1,14 @@
-// Gamma and vega: the sums of a class by group, bought options on one side and sold ones on the other, and the charges on them.
-ghost use Rattle.std.specs.Prelude.{◌≡◌, ◌*◌, ◌≤◌, get_or};
-ghost use Rattle.sums.specs.Sums.{sum_of};
-ghost use Rattle.charges.specs.Charges.{groups};
+// Gamma and vega: the positions of a class by group, bought options long and sold ones short, and
+// the charges on them.
+ghost use Rattle.std.specs.Prelude.{◌≡◌, ◌*◌, ◌≤◌};
 ghost use Rattle.options.specs.Table.{options_of};
 ghost use Rattle.options.specs.Refusals.{most_options};
-ghost use Rattle.options.specs.Greeks.{gamma_charge, vega_charge};
-ghost use Rattle.options.specs.Inner.Reading.{Taken};
-ghost use Rattle.options.specs.Inner.Sums.{most_twice_gamma, amount_of, most_of, Gathered, half_excess};
-ghost use Rattle.options.specs.Inner.Answers.{each_class};
+ghost use Rattle.options.specs.Greeks.{half_short, gamma_charge, vega_charge};
+ghost use Rattle.options.specs.Inner.Sums.{most_twice_gamma, Measurable, GatheredOf, half_shorts};
 
-use crate::{impacts, rows};
+use crate::OptionRow;
+use crate::rows::OptionTable;
+use ladder::positions::Position;
 
 // The groups of a class.
 const GROUPS: usize = 32;
@@ -17,97 +16,59 @@ const GROUPS: usize = 32;
 // A quarter of a hundredth of a volatility point, in mils for each unit of vega.
 const QUARTER_SHIFT: u64 = 2500;
 
-// The sums of a class by group.
-#[derive(Clone, Copy)]
-struct Sides {
-    bought: [u64; GROUPS],
-    sold: [u64; GROUPS],
-}
-
-// The sums of a class, of vega or of twice gamma, in one pass over the table.
-fn gather(table: &[u8], many: usize, class: u8, vega: bool) -> Sides
-    requires { Taken table.now many }
-    ensures { Gathered (amount_of vega) (most_of vega) class many (options_of table.now) result.bought result.sold }
+// The positions of a class by group, of what an option counts for, in one pass over the table.
+fn gather<F: Fn(OptionRow) -> u64>(
+    table: OptionTable<'_>,
+    class: u8,
+    amount: F,
+) -> [Position; GROUPS]
+    requires { Measurable (F.pre amount) (F.post amount) }
+    ensures { GatheredOf (F.pre amount) (F.post amount) class table.entry.bytes.now result }
 {
-    let mut bought = [0u64; GROUPS];
-    let mut sold = [0u64; GROUPS];
-    let mut row: usize = 0;
-    while row < many {
-        let option = rows::option_at(table, row);
-        let group = option.group as usize;
-        let amount = impacts::amount_of(option, vega);
-        bought[group] += impacts::bought_in(option, class, amount);
-        sold[group] += impacts::sold_in(option, class, amount);
-        row += 1;
+    let mut sides = [Position::default(); GROUPS];
+    for row in 0..table.len() {
+        let option = table.option(row);
+        if option.class == class {
+            let group = usize::from(option.group);
+            if option.is_bought() {
+                sides[group].long += amount(option);
+            } else {
+                sides[group].short += amount(option);
+            }
+        }
     }
-    Sides { bought, sold }
+    sides
 }
 
 // Half of what the sold side exceeds the bought by, rounded up.
-fn half_short(bought: u64, sold: u64) -> u64
-    ensures { result ≡ half_excess bought sold }
+#[tactic(auto, unfolding(crate::specs::Greeks::half_short))]
+fn half_short(sides: Position) -> u64
+    ensures { result ≡ half_short sides }
 {
-    if sold < bought {
-        return 0;
-    }
-    let short = sold - bought;
-    short / 2 + short % 2
+    sides.short.saturating_sub(sides.long).div_ceil(2)
 }
 
 // That of every group, summed.
-fn half_shorts(bought: &[u64; GROUPS], sold: &[u64; GROUPS]) -> u64
-    requires { sum_of (λ group. half_excess (get_or bought.now group 0) (get_or sold.now group 0)) groups ≤ most_options * most_twice_gamma }
-    ensures { result ≡ sum_of (λ group. half_excess (get_or bought.now group 0) (get_or sold.now group 0)) groups }
+fn half_shorts(positions: &[Position; GROUPS]) -> u64
+    requires { half_shorts positions.now ≤ most_options * most_twice_gamma }
+    ensures { result ≡ half_shorts positions.now }
 {
     let mut charge: u64 = 0;
-    let mut group: usize = 0;
-    while group < GROUPS {
-        charge += half_short(bought[group], sold[group]);
-        group += 1;
+    for sides in positions {
+        charge += half_short(*sides);
     }
     charge
 }
 
-fn gamma_charge(table: &[u8], many: usize, class: u8) -> u64
-    requires { Taken table.now many }
-    ensures { result ≡ gamma_charge class (options_of table.now) }
+pub fn gamma_charge(table: OptionTable<'_>, class: u8) -> u64
+    ensures { result ≡ gamma_charge class (options_of table.entry.bytes.now) }
 {
-    let sides = gather(table, many, class, false);
-    let bought = sides.bought;
-    let sold = sides.sold;
-    half_shorts(&bought, &sold)
+    half_shorts(&gather(table, class, OptionRow::twice_gamma))
 }
 
-fn vega_charge(table: &[u8], many: usize, class: u8) -> u64
-    requires { Taken table.now many }
-    ensures { result ≡ vega_charge class (options_of table.now) }
+pub fn vega_charge(table: OptionTable<'_>, class: u8) -> u64
+    ensures { result ≡ vega_charge class (options_of table.entry.bytes.now) }
 {
-    let sides = gather(table, many, class, true);
-    let bought = sides.bought;
-    let sold = sides.sold;
-    QUARTER_SHIFT * ladder::absolute_nets(&bought, &sold, GROUPS)
-}
-
-// The gamma charges of equity, foreign exchange and commodities.
-pub fn gammas(table: &[u8], many: usize) -> [u64; 3]
-    requires { Taken table.now many }
-    ensures { result ≡ each_class gamma_charge (options_of table.now) }
-{
-    [
-        gamma_charge(table, many, 2),
-        gamma_charge(table, many, 3),
-        gamma_charge(table, many, 4),
-    ]
-}
-
-// The vega charges of the same.
-pub fn vegas(table: &[u8], many: usize) -> [u64; 3]
-    requires { Taken table.now many }
-    ensures { result ≡ each_class vega_charge (options_of table.now) }
-{
-    [
-        vega_charge(table, many, 2),
-        vega_charge(table, many, 3),
-        vega_charge(table, many, 4),
-    ]
+    let positions = gather(table, class, OptionRow::vega_of);
+    QUARTER_SHIFT * ladder::absolute_nets(&positions, GROUPS)
 }

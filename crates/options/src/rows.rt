@@ -1,130 +1,144 @@
-// The rows of an option table, and whether their fields are in range.
-ghost use Rattle.std.specs.Prelude.{◌≡◌, ◌+◌, ◌*◌, ◌≤◌, length};
-ghost use Rattle.options.specs.Table.{count_size, option_size, option_count, option_at, options_of};
-ghost use Rattle.options.specs.Refusals.{length_refused, sort_allowed, size_allowed, allowed as is_allowed, first_outside, options_refusal};
-ghost use Rattle.options.specs.Inner.Reading.{Whole};
+// An option table that is taken, its rows, and whether their fields are in range.
+ghost use Rattle.std.specs.Prelude.{◌≡◌, ◌+◌, ◌*◌, ◌<◌, ◌≤◌, cond, length, IfOk};
+ghost use Rattle.book.specs.Reasons.{told, number_in};
+ghost use Rattle.options.specs.Table.{count_size, option_size, decode_option, option_count, option_at};
+ghost use Rattle.options.specs.Refusals.{length_refused, sort_allowed, size_allowed, allowed as is_allowed, options_refusal};
+ghost use Rattle.options.specs.Accepted.{Allowed};
 
 use crate::OptionRow;
-use book::{LAST_GROUP, Refusal, fields, limits};
+use book::{LAST_GROUP, Reason, Refused, fields, limits};
 
 // The bytes of the count, and of a row; the most rows of a table.
 const COUNT_SIZE: usize = 2;
 
 const OPTION_SIZE: usize = 18;
 
-const MOST_OPTIONS: usize = 1000;
+const MOST_OPTIONS: u16 = 1000;
 
 // The largest underlying, in thousands, and a delta of one, in ten-thousandths.
 const MOST_UNDERLYING: u32 = 1_000_000;
 
 const WHOLE_DELTA: u16 = 10_000;
 
-// How many rows the table says that it has.
-pub fn option_count(table: &[u8]) -> usize
+// An option table that is taken: nothing in it is refused.
+#[derive(Clone, Copy)]
+pub struct OptionTable<'a> {
+    bytes: &'a [u8],
+    ghost taken: { (options_refusal bytes.now).number ≡ 0 },
+}
+
+impl<'a> OptionTable<'a> {
+    // A table that is taken, or the first reason against it: 16, and then 17 at a row.
+    pub fn read(bytes: &'a [u8]) -> Result<OptionTable<'a>, Refused>
+        ensures refusal { told result ≡ options_refusal bytes.now }
+        ensures bytes { IfOk result (λ table. table.bytes.now ≡ bytes.now) }
+    {
+        let many = check_length(bytes)?;
+        for row in 0..many {
+            if !option_at(bytes, row).is_allowed() {
+                return Err(Reason::OptionRow.at_row(row));
+            }
+        }
+        Ok(OptionTable { bytes })
+    }
+
+    // How many options it has.
+    pub fn len(self) -> u16
+        ensures { result ≡ option_count self.entry.bytes.now }
+    {
+        option_count(self.bytes)
+    }
+
+    // The option of a number.
+    pub fn option(self, row: u16) -> OptionRow
+        requires { row < option_count self.bytes.now }
+        ensures value { result ≡ option_at self.entry.bytes.now row }
+        ensures allowed { Allowed result }
+    {
+        option_at(self.bytes, row)
+    }
+}
+
+impl OptionRow {
+    // The eighteen bytes of a row.
+    #[tactic(auto, unfolding(crate::specs::Table::decode_option))]
+    fn decode(bytes: &[u8]) -> OptionRow
+        requires { length bytes.now ≡ option_size }
+        ensures { result ≡ decode_option bytes.now }
+    {
+        OptionRow {
+            class: bytes[0],
+            group: bytes[1],
+            right: bytes[2],
+            kind: bytes[3],
+            amount: fields::u32_at(bytes, 4),
+            delta: fields::u16_at(bytes, 8),
+            gamma: fields::u16_at(bytes, 10),
+            vega: fields::u16_at(bytes, 12),
+            volatility: fields::u16_at(bytes, 14),
+            days: fields::u16_at(bytes, 16),
+        }
+    }
+
+    #[tactic(auto, unfolding(crate::specs::Refusals::sort_allowed))]
+    fn is_sort_allowed(self) -> bool
+        ensures { result ≡ sort_allowed self }
+    {
+        let class = usize::from(self.class);
+        2 <= class
+            && class <= 4
+            && self.group <= LAST_GROUP
+            && self.right <= 3
+            && !limits::wrong_kind(class, self.kind)
+            && self.days <= limits::most_days(class)
+    }
+
+    #[tactic(auto, unfolding(crate::specs::Refusals::size_allowed))]
+    fn is_size_allowed(self) -> bool
+        ensures { result ≡ size_allowed self }
+    {
+        1 <= self.amount && self.amount <= MOST_UNDERLYING && self.delta <= WHOLE_DELTA
+    }
+
+    // Every field is in its range.
+    #[tactic(auto, unfolding(crate::specs::Refusals::allowed))]
+    fn is_allowed(self) -> bool
+        ensures { result ≡ is_allowed self }
+    {
+        self.is_sort_allowed() && self.is_size_allowed()
+    }
+}
+
+// How many rows a table says that it has.
+#[tactic(auto, unfolding(crate::specs::Table::option_count))]
+fn option_count(table: &[u8]) -> u16
     requires { count_size ≤ length table.now }
     ensures { result ≡ option_count table.now }
 {
-    fields::u16_at(table, 0) as usize
+    fields::u16_at(table, 0)
 }
 
 // The row of a number.
-pub fn option_at(table: &[u8], row: usize) -> OptionRow
+#[tactic(auto, unfolding(crate::specs::Table::option_at))]
+fn option_at(table: &[u8], row: u16) -> OptionRow
     requires { count_size + option_size * row + option_size ≤ length table.now }
     ensures { result ≡ option_at table.now row }
 {
-    let at = COUNT_SIZE + OPTION_SIZE * row;
-    OptionRow {
-        class: table[at],
-        group: table[at + 1],
-        right: table[at + 2],
-        kind: table[at + 3],
-        amount: fields::u32_at(table, at + 4),
-        delta: fields::u16_at(table, at + 8),
-        gamma: fields::u16_at(table, at + 10),
-        vega: fields::u16_at(table, at + 12),
-        volatility: fields::u16_at(table, at + 14),
-        days: fields::u16_at(table, at + 16),
-    }
+    let at = COUNT_SIZE + OPTION_SIZE * usize::from(row);
+    OptionRow::decode(&table[at..at + OPTION_SIZE])
 }
 
-fn sort_allowed(option: OptionRow) -> bool
-    ensures { result ≡ sort_allowed option }
+// The count of a table that is as long as its rows, or 16.
+#[tactic(auto, unfolding(crate::specs::Refusals::length_refused, book::specs::Reasons::number_in, book::specs::Reasons::number_of))]
+fn check_length(table: &[u8]) -> Result<u16, Reason>
+    ensures number { number_in result ≡ cond (length_refused table.now) 16 0 }
+    ensures many { IfOk result (λ many. many ≡ option_count table.now) }
 {
-    let class = option.class as usize;
-    if class < 2 {
-        return false;
+    if table.len() < COUNT_SIZE
+        || MOST_OPTIONS < option_count(table)
+        || table.len() != COUNT_SIZE + OPTION_SIZE * usize::from(option_count(table))
+    {
+        return Err(Reason::OptionTable);
     }
-    if 4 < class {
-        return false;
-    }
-    if LAST_GROUP < option.group {
-        return false;
-    }
-    if 3 < option.right {
-        return false;
-    }
-    if limits::wrong_kind(class, option.kind) {
-        return false;
-    }
-    option.days <= limits::most_days(class)
-}
-
-fn size_allowed(option: OptionRow) -> bool
-    ensures { result ≡ size_allowed option }
-{
-    if option.amount < 1 {
-        return false;
-    }
-    if MOST_UNDERLYING < option.amount {
-        return false;
-    }
-    option.delta <= WHOLE_DELTA
-}
-
-// Every field is in its range.
-fn allowed(option: OptionRow) -> bool
-    ensures { result ≡ is_allowed option }
-{
-    if sort_allowed(option) {
-        return size_allowed(option);
-    }
-    false
-}
-
-// 17 at the first row with a field out of its range.
-fn first_outside(table: &[u8], many: usize) -> Refusal
-    requires { Whole table.now many }
-    ensures { result ≡ first_outside 0 (options_of table.now) }
-{
-    let mut row: usize = 0;
-    while row < many {
-        if !allowed(option_at(table, row)) {
-            return book::refused(17, row as u16);
-        }
-        row += 1;
-    }
-    book::refused(0, 0)
-}
-
-fn length_refused(table: &[u8]) -> bool
-    ensures { result ≡ length_refused table.now }
-{
-    if table.len() < COUNT_SIZE {
-        return true;
-    }
-    let many = option_count(table);
-    if MOST_OPTIONS < many {
-        return true;
-    }
-    table.len() != COUNT_SIZE + OPTION_SIZE * many
-}
-
-// 16, then 17; all zero where the table is taken.
-pub fn refusal(table: &[u8]) -> Refusal
-    ensures { result ≡ options_refusal table.now }
-{
-    if length_refused(table) {
-        return book::refused(16, 0);
-    }
-    first_outside(table, option_count(table))
+    Ok(option_count(table))
 }

@@ -9,13 +9,17 @@ use native.Mathlib.Omega.{arith}
 use lib.ListN.{length, take, drop, length-append}
 use lib.Seq.{drop-cons}
 use borrow.Author.Tests.{lt-ltb, le-ltb, ne_eqb}
+use Rattle.std.proofs.Common.{Err}
 use Rattle.book.specs.declared.Counts.{Counts}
 use Rattle.book.specs.declared.Refusal.{Refusal}
 use Rattle.book.specs.declared.Row.{Row}
+use Rattle.book.specs.declared.reasons.Reason.TheVariants.{Room}
+use Rattle.book.specs.declared.reasons.Refused.{Refused}
 use Rattle.book.specs.Counts.{contents_size, row_size, counts_of, rows_before, count_of_rows}
 use Rattle.book.specs.Rows.{decode}
 use Rattle.book.specs.Legs.{Leg, leg_of, legs_of, of_class}
 use Rattle.book.specs.Refusals.{refused, contents_refusal, refusal_of}
+use Rattle.book.specs.Reasons.{number_of, numbers_of, at_start}
 use Rattle.book.specs.Parts.{accepts}
 use Rattle.book.proofs.Placing.{of_four, before-none, before-all}
 use Rattle.book.proofs.Walking.{bytes_at, legs_length, leg-at}
@@ -27,8 +31,8 @@ use Rattle.layout.proofs.Whole.{contents_length}
 use Rattle.layout.proofs.Rows.{row_length}
 use Rattle.layout.proofs.Writing.{written-more}
 use Rattle.layout.proofs.Room.{no_room, enough_room}
-use Rattle.shortest.specs.Shortest.{Shown, some_row, leg_alone, file_showing, shortest_file, shortest_refusal, shortest_of, shortest_output}
-use Rattle.shortest.specs.Inner.Places.{RowIn, one_in, answer_of}
+use Rattle.shortest.specs.Shortest.{some_row, leg_alone, file_showing, shortest_file, shortest_refusal, shortest_answer, shortest_of, shortest_output}
+use Rattle.shortest.specs.Inner.Places.{RowIn, one_in, file_answer}
 
 -- ---- each row is one of a class
 pub record InSome (counts : Counts) (row : ℕ) : Type 0 where
@@ -129,15 +133,16 @@ both_written out {counts} {row} room same-counts same_row head tail =
 
 -- ---- the answer and the output
 module _ (s out file : List ℕ) (is : shortest_file s ≡ file) (size : ℕ) (sized : length file ≡ size) where
-  pub kept : accepts s ≡ false → length out < size → {r : Shown} → r ≡ answer_of 12 0 false → (r ≡ shortest_of s (length out)) × (out ≡ shortest_output s out)
-  unfolding shortest_of shortest_output shortest_refusal answer_of refused figure_of output_of
-  kept told short gives =
+  pub kept : accepts s ≡ false → length out < size → {r : Refused} → r ≡ at_start Room
+      → (file_answer (Err r) ≡ shortest_of s (length out)) × (out ≡ shortest_output s out)
+  unfolding shortest_answer shortest_of shortest_output shortest_refusal numbers_of number_of refused figure_of output_of
+  kept tells short why =
       let twelve = no_room size (length out) short in
-      (gives ∙ rw (is, sized, twelve, told), rw (is, sized, twelve))
+      (rw (why, is, sized, twelve, tells), rw (is, sized, twelve))
 
-  pub wrote : (accepted : Bool) → accepts s ≡ accepted → size ≤ length out → {r : Shown} {out' : List ℕ} → r ≡ answer_of 0 size accepted → out' ≡ written out 0 file
-      → (r ≡ shortest_of s (length out)) × (out' ≡ shortest_output s out)
-  unfolding shortest_of shortest_output shortest_refusal answer_of refused figure_of output_of
-  wrote accepted told room gives writes =
+  pub wrote : (accepted : Bool) → accepts s ≡ accepted → size ≤ length out → {out' : List ℕ} → out' ≡ written out 0 file
+      → (record { refusal = refused 0 0; length = size; accepted = accepted } ≡ shortest_of s (length out)) × (out' ≡ shortest_output s out)
+  unfolding shortest_of shortest_output shortest_refusal refused figure_of output_of
+  wrote accepted tells room writes =
       let none = enough_room size (length out) room in
-      (gives ∙ rw (is, sized, none, told), writes ∙ rw (is, sized, none))
+      (rw (is, sized, none, tells), writes ∙ rw (is, sized, none))

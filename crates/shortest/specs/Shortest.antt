@@ -1,14 +1,15 @@
 -- The shortest file that shows a refusal (P12): what is written, who is told no, and the output afterwards.
-use Rattle.std.specs.Prelude.{ℕ, cond, List, [], ltb, eqb, length, take, drop}
+use Rattle.std.specs.Prelude.{ℕ, Bool, true, false, cond, List, [], ltb, eqb, length, take, drop, Option, None, Some, Result, Ok, Err}
 use Rattle.book.specs.declared.Counts.{Counts}
 use Rattle.book.specs.declared.Refusal.{Refusal}
 use Rattle.book.specs.Counts.{counts_of, count_of_rows}
 use Rattle.book.specs.Legs.{Leg, legs_of}
-use Rattle.book.specs.Refusals.{refusal_of}
+use Rattle.book.specs.Refusals.{refused, refusal_of}
+use Rattle.book.specs.declared.reasons.Refused.{Refused}
+use Rattle.book.specs.Reasons.{numbers_of}
 use Rattle.book.specs.Parts.{accepts}
 use Rattle.layout.specs.Files.{contents_bytes, book_of}
 use Rattle.layout.specs.Room.{room_refusal, figure_of, output_of}
-pub use Rattle.shortest.specs.declared.Shown.{Shown}
 
 -- ---- what is written
 -- counts with the first made 1 where all are zero (P12)
@@ -35,6 +36,19 @@ shortest_file s = file_showing (refusal_of s) s
 -- its only refusal, into an output of so many bytes: 12 (P12)
 unfoldable pub shortest_refusal : List ℕ → ℕ → Refusal
 shortest_refusal s room = room_refusal (length (shortest_file s)) room
+
+-- why the call is refused, all zero where it is not; the length of what is written, 0 where it is
+-- refused; and whether the book is accepted, so that nothing is written (P12)
+pub record Shown : Type 0 where
+  pub refusal : Refusal
+  pub length : ℕ
+  pub accepted : Bool
+
+-- what the call's answer tells: no length is that of an accepted book (P12)
+unfoldable pub shortest_answer : Result (Option ℕ) Refused → Shown
+shortest_answer (Ok None) = record { refusal = refused 0 0; length = 0; accepted = true }
+shortest_answer (Ok (Some size)) = record { refusal = refused 0 0; length = size; accepted = false }
+shortest_answer (Err r) = record { refusal = numbers_of r; length = 0; accepted = false }
 
 -- the answer: the refusal, the length of what is written, and whether the book is accepted, which tells it from one refused with 1 (P12)
 unfoldable pub shortest_of : List ℕ → ℕ → Shown

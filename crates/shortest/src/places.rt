@@ -7,6 +7,7 @@ ghost use Rattle.shortest.specs.Inner.Places.{RowIn, one_in};
 use book::Counts;
 
 // The counts with the first made 1 where all are zero.
+#[tactic(auto, unfolding(crate::specs::Shortest::some_row, crate::specs::Inner::Places::one_in))]
 pub fn some_row(counts: Counts) -> Counts
     ensures { result ≡ some_row counts }
 {
@@ -18,14 +19,15 @@ pub fn some_row(counts: Counts) -> Counts
 }
 
 // One row in a class, and none in the others.
+#[tactic(auto, unfolding(crate::specs::Inner::Places::one_in))]
 pub fn one_in(class: usize) -> Counts
     ensures { result ≡ one_in class }
 {
     Counts {
-        interest: (class == 1) as u16,
-        equity: (class == 2) as u16,
-        exchange: (class == 3) as u16,
-        commodity: (class == 4) as u16,
+        interest: u16::from(class == 1),
+        equity: u16::from(class == 2),
+        exchange: u16::from(class == 3),
+        commodity: u16::from(class == 4),
     }
 }
 
@@ -34,13 +36,10 @@ pub fn class_of(counts: Counts, row: usize) -> usize
     requires { row < count_of_rows counts }
     ensures { RowIn counts row result }
 {
-    if row < counts.rows_before(2) {
-        1
-    } else if row < counts.rows_before(3) {
-        2
-    } else if row < counts.rows_before(4) {
-        3
-    } else {
-        4
+    for class in 1..4usize {
+        if row < counts.rows_before(class + 1) {
+            return class;
+        }
     }
+    4
 }

@@ -1,7 +1,7 @@
 -- The accepted tables are those that are described directly, and the laws of the ladder hold for them; document 01's table is one of them.
 -- Assumes nothing.
 use Prim.Native.Nat.{ℕ, zero, suc, ◌+◌, ◌≤◌, ◌<◌}
-use mathlib.Core.Path.{◌≡◌, refl, sym, ap, ◌∙◌}
+use mathlib.Core.Path.{◌≡◌, refl, sym}
 use mathlib.Core.Bool.{Bool, true, false, not, true≢false}
 use mathlib.Core.List.{List, [], ◌∷◌, map}
 use native.Mathlib.Decide.{dec_lt, le_ind}
@@ -9,16 +9,20 @@ use native.Mathlib.Nat.{le_refl}
 use native.Mathlib.Numerals.{add-one}
 use native.Mathlib.Omega.{arith}
 use lib.ListN.{length, get_or, get_or-eq_default}
+use Rattle.std.proofs.Common.{Result, Ok}
 use borrow.Author.Tests.{leb-true, le-leb, eqb-true, eq-eqb}
 use Rattle.sums.specs.Sums.{span}
 use Rattle.sums.proofs.Cases.{both, untaken}
 use Rattle.sums.proofs.Filling.{listed_at, listed_length}
 use Rattle.book.specs.Fields.{u16_at}
+use Rattle.book.specs.declared.Reason.{Reason}
+use Rattle.book.specs.Reasons.{number_in}
 use Rattle.ladder.specs.declared.Percents.{Percents}
+use Rattle.ladder.specs.declared.Table.{Table}
 use Rattle.ladder.specs.Table.{AcceptedPercents, most_weight, weight_in}
 use Rattle.ladder.specs.Inner.Steps.{TableBounds}
 use Rattle.table.specs.Loaded.{table_bands, weight_at, percents_of, table_of, weights_hold, percents_hold, table_refusal, AcceptedTable, standard_bytes}
-use Rattle.table.specs.Inner.Loading.{Loaded, loaded_of}
+use Rattle.table.specs.Inner.Loading.{loaded_of}
 
 -- ---- weights, one after the other
 record Weighed (least : ℕ) (list : List ℕ) : Type 0 where
@@ -150,21 +154,18 @@ module _ (bytes : List ℕ) where
       (λ k from so_far below. omega (arith, so_far (omega arith), rw add-one at (ok.never_fall k (omega arith)))) 14 (omega arith) (omega arith))
 
 -- ---- what was loaded
-module _ (bytes : List ℕ) (loaded : Loaded) (is : loaded ≡ loaded_of bytes) where
-  pub loaded_number : loaded.number ≡ table_refusal bytes
+module _ (bytes : List ℕ) where
+  pub loaded_number : (answer : Result Table Reason) → number_in answer ≡ (loaded_of bytes).number → number_in answer ≡ table_refusal bytes
   unfolding loaded_of
-  loaded_number = ap (λ (l : Loaded). l.number) is
+  loaded_number answer is = is
 
-  module _ (good : loaded.number ≡ 0) where
+  module _ (table : Table) (is : number_in (Ok table) ≡ (loaded_of bytes).number) where
     pub not_refused : table_refusal bytes ≡ 0
-    not_refused = sym loaded_number ∙ good
+    unfolding number_in
+    not_refused = sym (loaded_number (Ok table) is)
 
-    pub loaded_table : loaded.table ≡ table_of bytes
-    unfolding loaded_of
-    loaded_table = ap (λ (l : Loaded). l.table) is ∙ simp (eq-eqb _ _ (described bytes not_refused).sized)
-
-    pub loaded_accepted : TableBounds loaded.table
-    loaded_accepted = rw loaded_table (accepted_table bytes (described bytes not_refused))
+    pub loaded_accepted : table ≡ table_of bytes → TableBounds table
+    loaded_accepted e = rw e (accepted_table bytes (described bytes not_refused))
 
 -- ---- document 01's table is one of them
 pub standard_accepted : table_refusal standard_bytes ≡ 0

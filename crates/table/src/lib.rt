@@ -4,10 +4,12 @@
 mod conditions;
 mod fields;
 
-ghost use Rattle.std.specs.Prelude.{◌≡◌};
-ghost use Rattle.table.specs.Loaded.{standard_bytes};
+ghost use Rattle.std.specs.Prelude.{◌≡◌, IfOk};
+ghost use Rattle.book.specs.Reasons.{number_in};
+ghost use Rattle.table.specs.Loaded.{standard_bytes, table_of};
 ghost use Rattle.table.specs.Inner.Loading.{loaded_of};
 
+use book::Reason;
 use ladder::Table;
 
 pub const SIZE: usize = 36;
@@ -25,32 +27,19 @@ pub fn standard() -> [u8; SIZE]
     STANDARD
 }
 
-// A table, and 0; or why it is refused.
-#[derive(Clone, Copy)]
-pub struct Loaded {
-    pub number: u8,
-    pub table: Table,
-}
-
 // Reads a table: 18 where it has not 36 bytes, 19 where a condition is broken.
-pub fn load(bytes: &[u8]) -> Loaded
-    ensures { result ≡ loaded_of bytes.now }
+#[tactic(auto, unfolding(crate::specs::Inner::Loading::loaded_of, crate::specs::Loaded::table_refusal, book::specs::Reasons::number_in, book::specs::Reasons::number_of))]
+pub fn load(bytes: &[u8]) -> Result<Table, Reason>
+    ensures refusal { number_in result ≡ (loaded_of bytes.now).number }
+    ensures table { IfOk result (λ table. table ≡ table_of bytes.now) }
 {
     if bytes.len() != SIZE {
-        return Loaded {
-            number: 18,
-            table: fields::none(),
-        };
+        return Err(Reason::TableLength);
     }
     let table = fields::read_table(bytes);
-    let weights = table.weights;
-    let percents = table.percents;
-    let holds = conditions::both(
-        conditions::weights_hold(weights),
-        conditions::percents_hold(percents),
-    );
-    Loaded {
-        number: if holds { 0 } else { 19 },
-        table,
+    if conditions::weights_hold(table.weights) && conditions::percents_hold(table.percents) {
+        Ok(table)
+    } else {
+        Err(Reason::TableValues)
     }
 }

@@ -1,18 +1,18 @@
 -- Pieces of a text written one after the other, and the digits of a number.
 -- Assumes nothing.
-use mathlib.Core.Path.{◌≡◌, refl, ap, ◌∙◌}
+use mathlib.Core.Path.{◌≡◌, refl, sym, ap, ◌∙◌}
 use mathlib.Core.Bool.{Bool, true, false, cond}
-use mathlib.Core.List.{List, [], ◌∷◌, ◌++◌, append_assoc}
+use mathlib.Core.List.{List, [], ◌∷◌, ◌++◌}
 use Prim.Native.Nat.{ℕ, zero, suc, ◌+◌, ◌*◌, ◌/◌, ◌%◌, ◌≤◌, ◌<◌}
+use native.Mathlib.Decide.{dec_lt}
 use native.Mathlib.Omega.{arith}
 use lib.Dec.{ltb}
-use lib.ListN.{length, take, drop, set, length-append, length-set}
-use lib.Seq.{sets-eq}
+use lib.ListN.{length, length-append}
 use borrow.Author.Tests.{lt-ltb, le-ltb, eq-eqb, ne_eqb}
 use Rattle.book.specs.declared.Refusal.{Refusal}
 use Rattle.charges.specs.declared.Report.{Report}
 use Rattle.layout.specs.Written.{written}
-use Rattle.layout.proofs.Writing.{written-more}
+use Rattle.layout.proofs.Writing.{written-more, written-nothing}
 use Rattle.text.specs.Ascii.{ascii}
 use Rattle.text.specs.Lines.{digits, decimal, line, charges_text, refusal_text, report_text}
 use Rattle.text.specs.Inner.Pieces.{Wrote, most_text, line_most}
@@ -27,15 +27,9 @@ wrote_more out at done piece {mid} first second room =
       same = second.same ∙ first.same;
     }
 
--- one byte stored
-wrote_byte : (out : List ℕ) (at byte : ℕ) → at < length out → Wrote out at (byte ∷ []) (at + 1) (set out at byte)
-unfolding written
-wrote_byte out at byte h =
-    record {
-      place = refl;
-      is = sets-eq (byte ∷ []) out at (omega arith) ∙ append_assoc (take at out) (byte ∷ []) (drop (at + 1) out);
-      same = length-set out at byte;
-    }
+-- nothing written
+wrote_none : (out : List ℕ) (at : ℕ) → Wrote out at [] at out
+wrote_none out at = record { place = omega arith; is = sym (written-nothing out at); same = refl }
 
 -- ---- the digits of a number
 tens : ℕ → ℕ
@@ -56,41 +50,48 @@ enough (suc k) n h = go (ltb n 10) (enough k (n / 10) (omega arith))
     go true same = refl
     go false same = ap (λ (l : List ℕ). l ++ last) same
 
-decimal-one : (n : ℕ) → n < 10 → decimal n ≡ (48 + n) ∷ []
+-- the digits before the last
+unfoldable pub front : ℕ → List ℕ
+front n = cond (ltb n 10) [] (decimal (n / 10))
+
+decimal-front : (n : ℕ) → n < 18446744073709551616 → decimal n ≡ front n ++ ((48 + n % 10) ∷ [])
+unfolding digits front tens
+decimal-front n fits = go (dec_lt n 10)
+  where
+    go : Dec (n < 10) → decimal n ≡ front n ++ ((48 + n % 10) ∷ [])
+    go (yes one) = let last : n % 10 ≡ n = omega arith in simp (lt-ltb n 10 one, last)
+    go (no more) =
+        simp (le-ltb n 10 (omega arith)) (ap (λ (l : List ℕ). l ++ ((48 + n % 10) ∷ [])) (enough 18 (n / 10) (omega arith)))
+
+module _ (out : List ℕ) (at n : ℕ) where
+  pub front-none : n / 10 ≤ 0 → Wrote out at (front n) at out
+  unfolding front
+  front-none one = simp (lt-ltb n 10 (omega arith)) (wrote_none out at)
+
+  pub front-some : 0 < n / 10 → {after : ℕ} {out' : List ℕ} → Wrote out at (decimal (n / 10)) after out' → Wrote out at (front n) after out'
+  unfolding front
+  front-some more wrote = simp (le-ltb n 10 (omega arith)) wrote
+
+  module _ (fits : n < 18446744073709551616) (room : at + length (decimal n) ≤ length out) where
+    front-room : at + (length (front n) + 1) ≤ length out
+    front-room = omega (arith, ap length (decimal-front n fits) ∙ length-append (front n) _)
+
+    pub some_room : 0 < n / 10 → at + length (decimal (n / 10)) ≤ length out
+    unfolding front
+    some_room more = omega (arith, simp (le-ltb n 10 (omega arith)) at front-room)
+
+    pub last_room : {before : ℕ} {out' : List ℕ} → Wrote out at (front n) before out' → before + 1 ≤ length out'
+    last_room first = omega (arith, first.same, first.place, front-room)
+
+    -- the last digit follows the digits before it
+    pub wrote_last : {before after : ℕ} {out' out'' : List ℕ} → Wrote out at (front n) before out' → Wrote out' before ((48 + n % 10) ∷ []) after out''
+        → Wrote out at (decimal n) after out''
+    wrote_last first last = rw (decimal-front n fits) (wrote_more out at (front n) _ first last front-room)
+
+pub most_digits : (k n : ℕ) → length (digits k n) ≤ k
 unfolding digits
-decimal-one n h = simp (lt-ltb n 10 h)
-
-decimal-more : (n : ℕ) → 10 ≤ n → n < 18446744073709551616 → decimal n ≡ decimal (n / 10) ++ ((48 + n % 10) ∷ [])
-unfolding digits tens
-decimal-more n more fits = simp (le-ltb n 10 more) (ap (λ (l : List ℕ). l ++ ((48 + n % 10) ∷ [])) (enough 18 (n / 10) (omega arith)))
-
-pub one_room : (out : List ℕ) (at n : ℕ) → n < 10 → at + length (decimal n) ≤ length out → at < length out
-one_room out at n h room = omega (arith, ap length (decimal-one n h))
-
--- a number is written where its last digit follows the digits before it
-pub wrote_one : (out : List ℕ) (at n : ℕ) → n < 10 → at + length (decimal n) ≤ length out → Wrote out at (decimal n) (at + 1) (set out at (48 + n))
-wrote_one out at n h room = rw (decimal-one n h) (wrote_byte out at (48 + n) (one_room out at n h room))
-
-module _ (out : List ℕ) (at n : ℕ) (more : 10 ≤ n) (fits : n < 18446744073709551616) (room : at + length (decimal n) ≤ length out) where
-  digits-length : length (decimal n) ≡ length (decimal (n / 10)) + 1
-  digits-length = ap length (decimal-more n more fits) ∙ length-append (decimal (n / 10)) _
-
-  pub before-room : at + (length (decimal (n / 10)) + 1) ≤ length out
-  before-room = omega (arith, digits-length)
-
-  pub last_room : {before : ℕ} {out' : List ℕ} → Wrote out at (decimal (n / 10)) before out' → before < length out'
-  last_room first = omega (arith, first.same, first.place, before-room)
-
-  pub wrote_last : {before : ℕ} {out' : List ℕ} → Wrote out at (decimal (n / 10)) before out'
-      → Wrote out at (decimal n) (before + 1) (set out' before (48 + n % 10))
-  wrote_last {before} {out'} first =
-      rw (decimal-more n more fits)
-      (wrote_more out at (decimal (n / 10)) ((48 + n % 10) ∷ []) first (wrote_byte out' before (48 + n % 10) (last_room first)) before-room)
-
-pub digits-most : (k n : ℕ) → length (digits k n) ≤ k
-unfolding digits
-digits-most zero n = omega arith
-digits-most (suc k) n = go (ltb n 10) (digits-most k (n / 10))
+most_digits zero n = omega arith
+most_digits (suc k) n = go (ltb n 10) (most_digits k (n / 10))
   where
     go : (test : Bool) → length (digits k (n / 10)) ≤ k → length (cond test ((48 + n) ∷ []) (digits k (n / 10) ++ ((48 + n % 10) ∷ []))) ≤ suc k
     go true h = omega arith
@@ -103,14 +104,14 @@ three_in_steps out l1 l2 l3 at {a1} {o1 = o1} room w1 w2 w3 =
     let last = wrote_more o1 a1 l2 l3 w2 w3 (omega (arith, w1.same, w1.place)) in
     wrote_more out at l1 (l2 ++ l3) w1 last (rw length-append (omega arith))
 
-pub seven_in_steps : (out l1 l2 l3 l4 l5 l6 l7 : List ℕ) {a1 a2 a3 a4 a5 a6 a7 : ℕ} {o1 o2 o3 o4 o5 o6 o7 : List ℕ}
-    → length l1 + (length l2 + (length l3 + (length l4 + (length l5 + (length l6 + length l7))))) ≤ length out
-    → Wrote out 0 l1 a1 o1 → Wrote o1 a1 l2 a2 o2 → Wrote o2 a2 l3 a3 o3 → Wrote o3 a3 l4 a4 o4 → Wrote o4 a4 l5 a5 o5 → Wrote o5 a5 l6 a6 o6 → Wrote o6 a6 l7 a7 o7
-    → Wrote out 0 (l1 ++ (l2 ++ (l3 ++ (l4 ++ (l5 ++ (l6 ++ l7)))))) a7 o7
-seven_in_steps out l1 l2 l3 l4 l5 l6 l7 {a2 = a2} {a4 = a4} {o2 = o2} {o4 = o4} room w1 w2 w3 w4 w5 w6 w7 =
+pub seven_in_steps : (out l1 l2 l3 l4 l5 l6 l7 : List ℕ) (at : ℕ) {a1 a2 a3 a4 a5 a6 a7 : ℕ} {o1 o2 o3 o4 o5 o6 o7 : List ℕ}
+    → at + (length l1 + (length l2 + (length l3 + (length l4 + (length l5 + (length l6 + length l7)))))) ≤ length out
+    → Wrote out at l1 a1 o1 → Wrote o1 a1 l2 a2 o2 → Wrote o2 a2 l3 a3 o3 → Wrote o3 a3 l4 a4 o4 → Wrote o4 a4 l5 a5 o5 → Wrote o5 a5 l6 a6 o6 → Wrote o6 a6 l7 a7 o7
+    → Wrote out at (l1 ++ (l2 ++ (l3 ++ (l4 ++ (l5 ++ (l6 ++ l7)))))) a7 o7
+seven_in_steps out l1 l2 l3 l4 l5 l6 l7 at {a2 = a2} {a4 = a4} {o2 = o2} {o4 = o4} room w1 w2 w3 w4 w5 w6 w7 =
     let tail = three_in_steps o4 l5 l6 l7 a4 (omega (arith, w1.same, w1.place, w2.same, w2.place, w3.same, w3.place, w4.same, w4.place)) w5 w6 w7 in
     let middle = three_in_steps o2 l3 l4 (l5 ++ (l6 ++ l7)) a2 (simp length-append (omega (arith, w1.same, w1.place, w2.same, w2.place))) w3 w4 tail in
-    three_in_steps out l1 l2 (l3 ++ (l4 ++ (l5 ++ (l6 ++ l7)))) 0 (simp length-append (omega arith)) w1 w2 middle
+    three_in_steps out l1 l2 (l3 ++ (l4 ++ (l5 ++ (l6 ++ l7)))) at (simp length-append (omega arith)) w1 w2 middle
 
 -- ---- lines
 pub line-length : (name : List ℕ) (n : ℕ) → length (line name n) ≡ length name + (length (decimal n) + 2)
@@ -118,20 +119,19 @@ unfolding line ascii
 line-length name n = simp length-append (omega arith)
 
 pub line-most : (name : List ℕ) (n : ℕ) → length (line name n) ≤ line_most name
-line-most name n = omega (arith, line-length name n, digits-most 20 n)
+line-most name n = omega (arith, line-length name n, most_digits 20 n)
 
 pub line-in_steps : (name : List ℕ) (n : ℕ) (out : List ℕ) (at : ℕ) {word space number after : ℕ} {out1 out2 out3 out4 : List ℕ}
     → at + line_most name ≤ length out → Wrote out at name word out1 → Wrote out1 word (ascii " ") space out2
     → Wrote out2 space (decimal n) number out3 → Wrote out3 number (ascii "\n") after out4
-    → Wrote out at (line name n) after out4 × (after ≤ at + line_most name)
+    → Wrote out at (line name n) after out4
 unfolding line ascii
 line-in_steps name n out at room w1 w2 w3 w4 =
     let size = line-length name n in
     let most = line-most name n in
     let last = wrote_more _ _ (decimal n) _ w3 w4 (omega (arith, w1.same, w1.place, w2.same, w2.place)) in
     let spaced = wrote_more _ _ (ascii " ") _ w2 last (simp length-append (omega (arith, w1.same, w1.place))) in
-    let whole = wrote_more out at name _ w1 spaced (simp length-append (omega arith)) in
-    (whole, omega (arith, whole.place))
+    wrote_more out at name _ w1 spaced (simp length-append (omega arith))
 
 -- ---- the whole text, of a report that is refused and of one that is not
 charges_most : (report : Report) → length (charges_text report) ≤ most_text
@@ -151,7 +151,7 @@ charges_most report =
 
 refusal_most : (refusal : Refusal) → length (refusal_text refusal) ≤ most_text
 unfolding refusal_text ascii
-refusal_most refusal = simp length-append (omega (arith, digits-most 20 refusal.number, line-most (ascii " row") refusal.row))
+refusal_most refusal = simp length-append (omega (arith, most_digits 20 refusal.number, line-most (ascii " row") refusal.row))
 
 module _ (report : Report) (out : List ℕ) {after : ℕ} {out' : List ℕ} where
   from_start : (text : List ℕ) → report_text report ≡ text → length text ≤ most_text → Wrote out 0 text after out' → most_text ≤ length out

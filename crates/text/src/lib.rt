@@ -3,11 +3,12 @@
 
 mod lines;
 
-ghost use Rattle.std.specs.Prelude.{◌≡◌, ◌≤◌, length};
+ghost use Rattle.std.specs.Prelude.{◌≡◌, ◌+◌, ◌≤◌, length};
 ghost use Rattle.layout.specs.Written.{written};
 ghost use Rattle.text.specs.Lines.{charges_text, refusal_text, report_text};
 ghost use Rattle.text.specs.Inner.Pieces.{most_text, Wrote};
 
+use crate::lines::Text;
 use book::Refusal;
 use charges::Report;
 
@@ -18,33 +19,40 @@ pub const MOST_TEXT: usize = 232;
 pub fn write_report(report: Report, out: &mut [u8; MOST_TEXT]) -> usize
     ensures { (result ≡ length (report_text report)) × (result ≤ length out.new) × (out.new ≡ written out.old 0 (report_text report)) }
 {
+    let mut text = Text { out, length: 0 };
     if report.refusal.number == 0 {
-        write_charges(report, out)
+        text.push_charges(report);
     } else {
-        write_refusal(report.refusal, out)
+        text.push_refusal(report.refusal);
     }
+    text.length
 }
 
-// The lines of the six charges and the total.
-fn write_charges(report: Report, out: &mut [u8]) -> usize
-    requires { most_text ≤ length out.old }
-    ensures { Wrote out.old 0 (charges_text report) result out.new }
-{
-    let interest = lines::write_line(b"interest-specific", report.interest.specific, out, 0);
-    let general = lines::write_line(b"interest-general", report.interest.general, out, interest);
-    let equity = lines::write_line(b"equity-specific", report.equity.specific, out, general);
-    let market = lines::write_line(b"equity-general", report.equity.general, out, equity);
-    let exchange = lines::write_line(b"fx", report.exchange, out, market);
-    let commodity = lines::write_line(b"commodity", report.commodity, out, exchange);
-    lines::write_line(b"total", report.total, out, commodity)
-}
+impl<'a> Text<'a> {
+    // The lines of the six charges and the total.
+    fn push_charges(&mut self, report: Report)
+        requires { self.old.length + most_text ≤ length self.old.out.now }
+        ensures same { self.new.out.ghost_name ≡ self.old.out.ghost_name }
+        ensures wrote { Wrote self.old.out.now self.old.length (charges_text report) self.new.length self.new.out.now }
+    {
+        self.push_line(b"interest-specific", report.interest.specific);
+        self.push_line(b"interest-general", report.interest.general);
+        self.push_line(b"equity-specific", report.equity.specific);
+        self.push_line(b"equity-general", report.equity.general);
+        self.push_line(b"fx", report.exchange);
+        self.push_line(b"commodity", report.commodity);
+        self.push_line(b"total", report.total);
+    }
 
-// The line of a refusal.
-fn write_refusal(refusal: Refusal, out: &mut [u8]) -> usize
-    requires { most_text ≤ length out.old }
-    ensures { Wrote out.old 0 (refusal_text refusal) result out.new }
-{
-    let word = lines::write_bytes(b"refused ", out, 0);
-    let number = lines::write_decimal(refusal.number as u64, out, word);
-    lines::write_line(b" row", refusal.row as u64, out, number)
+    // The line of a refusal.
+    #[tactic(auto, using(crate::proofs::Pieces::most_digits))]
+    fn push_refusal(&mut self, refusal: Refusal)
+        requires { self.old.length + most_text ≤ length self.old.out.now }
+        ensures same { self.new.out.ghost_name ≡ self.old.out.ghost_name }
+        ensures wrote { Wrote self.old.out.now self.old.length (refusal_text refusal) self.new.length self.new.out.now }
+    {
+        self.push(b"refused ");
+        self.push_decimal(u64::from(refusal.number));
+        self.push_line(b" row", u64::from(refusal.row));
+    }
 }

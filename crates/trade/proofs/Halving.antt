@@ -8,13 +8,14 @@ use native.Mathlib.Omega.{arith}
 use borrow.Author.Tests.{ltb-true, ltb-false}
 use lib.Dec.{ltb}
 use Rattle.trade.specs.Trade.{none, most_trade, least_within, on_side}
-use Rattle.trade.specs.Inner.Searching.{Open, Searchable, TurnOf, open_charge, excess_of}
+use Rattle.trade.specs.Inner.Sides.{side_number}
+use Rattle.trade.specs.Inner.Searching.{Opening, Searchable, TurnOf, open_charge, excess_of}
 use Rattle.ladder.specs.Position.{◌⊕◌}
 use Rattle.ladder.specs.Inner.Steps.{gathered_with, gathered_figures}
 use Rattle.trade.proofs.Searching.{found_at, none_at}
 
 -- ---- the turn
-module _ (opened : Open) (some : 0 < opened.weight) where
+module _ (opened : Opening) (some : 0 < opened.weight) where
   pub turn_before : excess_of opened / opened.weight < most_trade → TurnOf opened (excess_of opened / opened.weight)
   turn_before inside =
       let amount = excess_of opened / opened.weight in
@@ -33,19 +34,19 @@ module _ (opened : Open) (some : 0 < opened.weight) where
       }
 
 -- ---- amounts of weight 0 change nothing
-pub no_weight : (opened : Open) → opened.weight ≡ 0 → (limit : ℕ) → limit < open_charge opened 0 → least_within (open_charge opened) limit ≡ none
+pub no_weight : (opened : Opening) → opened.weight ≡ 0 → (limit : ℕ) → limit < open_charge opened 0 → least_within (open_charge opened) limit ≡ none
 unfolding open_charge
 no_weight opened weightless limit over =
     none_at (open_charge opened) limit (λ j _. subst (λ (charge : ℕ). limit < charge) (ap charged (same j)) over)
   where
     charged : ℕ → ℕ
-    charged added = (gathered_figures opened.percents (gathered_with opened.zones opened.band (opened.own ⊕ on_side opened.side added))).charge
+    charged added = (gathered_figures opened.percents (gathered_with opened.zones opened.band (opened.own ⊕ on_side (side_number opened.side) added))).charge
 
     same : (j : ℕ) → opened.weight * 0 ≡ opened.weight * j
     same j = omega (arith, ap (λ (n : ℕ). n * j) weightless)
 
 -- ---- before the turn the charge falls, after it it rises
-module _ (opened : Open) (ok : Searchable opened) {turn : ℕ} (is : TurnOf opened turn) (limit : ℕ) where
+module _ (opened : Opening) (ok : Searchable opened) {turn : ℕ} (is : TurnOf opened turn) (limit : ℕ) where
   -- an amount over the limit, and all before it
   over_before : (over : ℕ) → over ≤ turn → limit < open_charge opened over → (j : ℕ) → j ≤ over → limit < open_charge opened j
   over_before over h beyond j k =

@@ -9,7 +9,6 @@ use native.Mathlib.Omega.{arith}
 use lib.ListN.{get_or, set}
 use lib.Seq.{get_or-set_other}
 use Rattle.sums.specs.Sums.{span}
-use Rattle.sums.specs.Inner.Tables.{Reads}
 use Rattle.ladder.specs.declared.InterestFigures.{InterestFigures}
 use Rattle.ladder.specs.declared.positions.Position.{Position}
 use Rattle.ladder.specs.declared.Table.{Table}
@@ -18,7 +17,7 @@ use Rattle.ladder.specs.Table.{most_weight, weight_in}
 use Rattle.ladder.specs.Interest.{all_bands, zones, interest_figures}
 use Rattle.ladder.specs.declared.whole.Gathered.{Gathered}
 use Rattle.ladder.specs.Inner.Steps.{GatheredOf, limit, bands, band_count}
-use Rattle.ladder.proofs.Matching.{Takes, same_position, plus_assoc}
+use Rattle.ladder.proofs.Matching.{Takes, plus_assoc}
 use Rattle.ladder.proofs.Totals.{◌⊞◌, takes_vertical, total-append, total-joined, band_within}
 use Rattle.ladder.proofs.AddsUp.{charge_of, three_grosses}
 use Rattle.ladder.proofs.Gathering.{gathered_summed}
@@ -28,20 +27,22 @@ use Rattle.ladder.proofs.OneBand.{figures_with, put_back}
 use Rattle.ladder.proofs.Turning.{total-at, band_lowers, band_raises}
 use Rattle.charges.specs.Inner.Tables.{most_gross, bands_from, weighted_from}
 use Rattle.trade.specs.Trade.{on_side, most_trade}
-use Rattle.trade.specs.Inner.Searching.{Open, OpenOf, CanOpen, open_charge, open_nets, excess_in, excess_of}
+use Rattle.trade.specs.declared.side.Side.{Side}
+use Rattle.trade.specs.Inner.Sides.{side_number, excess_in}
+use Rattle.trade.specs.Inner.Searching.{Opening, OpenOf, CanOpen, open_charge, open_nets, excess_of, Searchable}
 use Rattle.trade.proofs.Sides.{side_plus, side_gross, side_one, side_less, side_more, excess_taken}
 
 -- ---- an array with one entry cleared
-cleared : (list : List ℕ) (k : ℕ) → get_or (set list k 0) k 0 ≡ 0
+cleared : (list : List Position) (k : ℕ) → get_or (set list k empty) k empty ≡ empty
 cleared [] k = refl
-cleared (n ∷ list) zero = refl
-cleared (n ∷ list) (suc k) = cleared list k
+cleared (position ∷ list) zero = refl
+cleared (position ∷ list) (suc k) = cleared list k
 
 -- ---- the ladder
-module _ (table : Table) (longs shorts : List ℕ) (band : ℕ) (can : CanOpen table longs shorts band) where
+module _ (table : Table) (positions : List Position) (band : ℕ) (can : CanOpen table positions band) where
   -- the weighted bands
   abbrev whole : Bands
-  whole = weighted_from table longs shorts 0
+  whole = weighted_from table positions 0
 
   in_range : band < 15
   in_range = omega (arith, can.in_range)
@@ -50,32 +51,29 @@ module _ (table : Table) (longs shorts : List ℕ) (band : ℕ) (can : CanOpen t
   whole_fits =
       omega (
         arith,
-        weighted_gross table most_weight can.bounds.weights (bands_from longs shorts 0) (span 0 band_count),
+        weighted_gross table most_weight can.bounds.weights (bands_from positions 0) (span 0 band_count),
         mul-le-mul_left most_weight can.fits,
       )
 
   pub each_fits : (k : ℕ) → k < band_count → gross (whole k) ≤ limit
   each_fits k h = omega (arith, whole_fits, band_within whole k band_count h)
 
-  -- and the arrays that hold them
-  module _ {weighted-longs weighted-shorts : List ℕ}
-      (long : Reads band_count (λ k. weight_in table k * get_or longs (0 + k) 0) weighted-longs)
-      (short : Reads band_count (λ k. weight_in table k * get_or shorts (0 + k) 0) weighted-shorts) where
+  -- and the array that holds them
+  module _ (weighted : List Position) (each : (k : ℕ) → k < band_count → bands weighted k ≡ whole k) where
     abbrev others : Bands
-    others = bands (set weighted-longs band 0) (set weighted-shorts band 0)
+    others = bands (set weighted band empty)
 
     abbrev own : Position
-    own = record { long = get_or weighted-longs band 0; short = get_or weighted-shorts band 0 }
+    own = bands weighted band
 
     none : others band ≡ empty
-    none = same_position (cleared weighted-longs band) (cleared weighted-shorts band)
+    none = cleared weighted band
 
     same : (k : ℕ) → k < band_count → (band ≡ k → ⊥) → others k ≡ whole k
-    same k h other =
-        same_position (get_or-set_other weighted-longs band k 0 0 (λ e. other (sym e)) ∙ long.below k h) (get_or-set_other weighted-shorts band k 0 0 (λ e. other (sym e)) ∙ short.below k h)
+    same k h other = get_or-set_other weighted band k empty empty (λ e. other (sym e)) ∙ each k h
 
     own_is : own ≡ whole band
-    own_is = same_position (long.below band in_range) (short.below band in_range)
+    own_is = each band in_range
 
     -- with the band put back, and more
     back : (position : Position) → Agree band_count (others ⊞ at_band band (own ⊕ position)) (whole ⊞ at_band band position)
@@ -97,9 +95,12 @@ module _ (table : Table) (longs shorts : List ℕ) (band : ℕ) (can : CanOpen t
         )
 
     -- the zones of what is left, and the side that is added to
-    module _ (side : ℕ) {z : Gathered} (of : GatheredOf others z) where
-      abbrev opened : Open
-      opened = record { zones = z; own = own; band = band; side = side; weight = weight_in table band; percents = table.percents }
+    module _ (is : Side) {z : Gathered} (of : GatheredOf others z) where
+      abbrev side : ℕ
+      side = side_number is
+
+      abbrev opened : Opening
+      opened = record { zones = z; own = own; band = band; side = is; weight = weight_in table band; percents = table.percents }
 
       charge-at : (amount : ℕ) → open_charge opened amount ≡ charge_of table.percents zones (others ⊞ at_band band (own ⊕ on_side side (weight_in table band * amount)))
       unfolding open_charge
@@ -169,20 +170,20 @@ module _ (table : Table) (longs shorts : List ℕ) (band : ℕ) (can : CanOpen t
             (omega (arith, less, with_low, with_high, side_gross side (weight * more))) in
             rw (charge-at (low + more), charge-at low) (rw on at raised)
 
-      pub opened_of : OpenOf table longs shorts band side opened
-      opened_of =
+      pub searchable_of : Searchable opened
+      searchable_of =
           record {
-            searchable = record {
-              percents = can.bounds.percents;
-              summed = gathered_summed of (omega (arith, parts_fit, whole_fits));
-              room = omega (arith, of.first.is_gross, of.second.is_gross, of.third.is_gross, three_grosses zones others, parts_fit, whole_fits, mul-le-mul_right most_trade (can.bounds.weights band));
-              falling = λ low high h fits.
-                  let same : low + (high - low) ≡ high = omega arith in
-                  subst (λ (amount : ℕ). open_charge opened amount ≤ open_charge opened low) same
-                  (falls low (high - low) (omega (arith, fits, ap (λ (n : ℕ). weight_in table band * n) same)));
-              rising = λ low high h fits.
-                  let same : low + (high - low) ≡ high = omega arith in
-                  subst (λ (amount : ℕ). open_charge opened low ≤ open_charge opened amount) same (rises low (high - low) fits);
-            };
-            charges = charge-is;
+            percents = can.bounds.percents;
+            summed = gathered_summed of (omega (arith, parts_fit, whole_fits));
+            room = omega (arith, of.first.is_gross, of.second.is_gross, of.third.is_gross, three_grosses zones others, parts_fit, whole_fits, mul-le-mul_right most_trade (can.bounds.weights band));
+            falling = λ low high h fits.
+                let same : low + (high - low) ≡ high = omega arith in
+                subst (λ (amount : ℕ). open_charge opened amount ≤ open_charge opened low) same
+                (falls low (high - low) (omega (arith, fits, ap (λ (n : ℕ). weight_in table band * n) same)));
+            rising = λ low high h fits.
+                let same : low + (high - low) ≡ high = omega arith in
+                subst (λ (amount : ℕ). open_charge opened low ≤ open_charge opened amount) same (rises low (high - low) fits);
           }
+
+      pub opened_of : OpenOf table positions band is opened
+      opened_of = record { charges = charge-is }

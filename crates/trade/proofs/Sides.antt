@@ -11,7 +11,7 @@ use Rattle.ladder.specs.declared.positions.Position.{Position}
 use Rattle.ladder.specs.Position.{◌⊕◌, gross, absolute_net}
 use Rattle.ladder.proofs.Matching.{Takes, same_position, net-sides}
 use Rattle.trade.specs.Trade.{on_side}
-use Rattle.trade.specs.Inner.Searching.{excess_in}
+use Rattle.trade.specs.Inner.Sides.{excess_in}
 
 -- the amount, and the excess of the other side, by whether the side is long
 abbrev on : Bool → ℕ → Position
@@ -67,7 +67,6 @@ side_times side weight n = go (eqb side 0)
 -- adding to a side lowers the whole net until the excess of the other is made up, and then raises it
 module _ (side : ℕ) (whole : Position) (m n : ℕ) where
   pub side_less : m + n ≤ excess_in side whole → absolute_net (whole ⊕ on_side side (m + n)) + n ≤ absolute_net (whole ⊕ on_side side m)
-  unfolding excess_in
   side_less = go (eqb side 0)
     where
       go : (long : Bool) → m + n ≤ excess long whole → absolute_net (whole ⊕ on long (m + n)) + n ≤ absolute_net (whole ⊕ on long m)
@@ -75,7 +74,6 @@ module _ (side : ℕ) (whole : Position) (m n : ℕ) where
       go false h = omega (arith, net-sides (whole ⊕ on false (m + n)), net-sides (whole ⊕ on false m))
 
   pub side_more : excess_in side whole ≤ m → absolute_net (whole ⊕ on_side side m) + n ≤ absolute_net (whole ⊕ on_side side (m + n))
-  unfolding excess_in
   side_more = go (eqb side 0)
     where
       go : (long : Bool) → excess long whole ≤ m → absolute_net (whole ⊕ on long m) + n ≤ absolute_net (whole ⊕ on long (m + n))
@@ -84,7 +82,6 @@ module _ (side : ℕ) (whole : Position) (m n : ℕ) where
 
 -- the excess is the net's, whatever is matched
 pub excess_taken : (side : ℕ) {m : ℕ} {a b : Position} → Takes m a b → excess_in side a ≡ excess_in side b
-unfolding excess_in
 excess_taken side {m} {a} {b} t = go (eqb side 0)
   where
     go : (long : Bool) → excess long a ≡ excess long b

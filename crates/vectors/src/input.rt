@@ -1,101 +1,110 @@
-// Numbers and books from a stream; what is missing at its end is 0. An error is that of a read.
-ghost use Rattle.std.specs.Prelude.{◌≤◌, ◌<◌, IfOk, length as len};
+// Numbers and books from a stream; a number that is missing at its end is 0.
+ghost use Rattle.std.specs.Prelude.{◌≡◌, ◌<◌, IfOk, length as len};
 ghost use Rattle.std.specs.Io.{ReadsAtMost};
 
 use std::io;
 use std::io::Read;
 
-pub fn read_byte(from: &mut impl Read) -> io::Result<u8> {
-    let mut byte = [0u8; 1];
-    read_full(from, &mut byte)?;
-    Ok(byte[0])
+// Why no further call is answered.
+#[derive(Debug, Drop)]
+pub enum Stop {
+    // The stream ends, or has a tag of no call, or a book that breaks off, or one or an output that
+    // is too long.
+    End,
+    // A read or a write failed.
+    Failed(io::Error),
 }
 
-// Two bytes, low byte first.
+impl From<io::Error> for Stop {
+    fn from(error: io::Error) -> Stop {
+        Stop::Failed(error)
+    }
+}
+
+// How the books of a record are stored.
+#[derive(Clone, Copy)]
+pub enum Form {
+    Whole,
+    // The first 8 bytes and runs of equal rows.
+    Runs,
+}
+
+// The bytes of a number.
+pub fn read<const N: usize>(from: &mut impl Read) -> io::Result<[u8; N]> {
+    let mut bytes = [0u8; N];
+    read_full(from, &mut bytes)?;
+    Ok(bytes)
+}
+
 pub fn read_u16(from: &mut impl Read) -> io::Result<usize>
     ensures { IfOk result (λ number. number < 65536) }
 {
-    let low = read_byte(from)?;
-    let high = read_byte(from)?;
-    Ok(low as usize + 256 * (high as usize))
+    Ok(usize::from(u16::from_le_bytes(read(from)?)))
 }
 
-// Four bytes, low byte first.
 pub fn read_u32(from: &mut impl Read) -> io::Result<usize>
     ensures { IfOk result (λ number. number < 4294967296) }
 {
-    let low = read_u16(from)?;
-    let high = read_u16(from)?;
-    Ok(low + 65536 * high)
+    // A cast, since a usize has no From of a u32.
+    Ok(u32::from_le_bytes(read(from)?) as usize)
 }
 
-// Eight bytes, low byte first.
-pub fn read_u64(from: &mut impl Read) -> io::Result<u64> {
-    let low = read_u32(from)?;
-    let high = read_u32(from)?;
-    Ok(low as u64 + 4294967296 * (high as u64))
-}
-
-// A book of so many bytes to the front of buf: how many bytes of it there were, none where buf is
-// too short.
-pub fn read_book(
+// A book of so many bytes, into the front of space.
+pub fn read_book<'a>(
     from: &mut impl Read,
-    buf: &mut [u8],
+    form: Form,
     length: usize,
-    in_runs: bool,
-) -> io::Result<usize>
-    ensures { ReadsAtMost result buf.new }
+    space: &'a mut [u8],
+) -> Result<&'a [u8], Stop>
+    ensures { IfOk result (λ book. len book.now ≡ length) }
 {
-    if buf.len() < length {
-        return Ok(0);
+    if space.len() < length {
+        return Err(Stop::End);
     }
-    if in_runs {
-        read_runs(from, &mut buf[..length])
-    } else {
-        read_full(from, &mut buf[..length])
+    let book = &mut space[..length];
+    match form {
+        Form::Whole => read_all(from, book)?,
+        Form::Runs => read_runs(from, book)?,
     }
+    Ok(book)
 }
 
-// A book that is stored as its first 8 bytes and runs of equal rows: how many bytes of it there
-// were.
-fn read_runs(from: &mut impl Read, book: &mut [u8]) -> io::Result<usize>
-    ensures { IfOk result (λ n. n ≤ len book.old) }
-{
+// The first 8 bytes, and then runs of equal rows; of no bytes nothing.
+fn read_runs(from: &mut impl Read, book: &mut [u8]) -> Result<(), Stop> {
+    if book.is_empty() {
+        return Ok(());
+    }
     if book.len() < 8 {
-        return Ok(0);
+        return Err(Stop::End);
     }
-    let mut done = read_full(from, &mut book[..8])?;
-    while done < book.len() {
-        let next = read_run(from, book, done)?;
-        if next <= done {
-            return Ok(done);
+    let (contents, mut rest) = book.split_at_mut(8);
+    read_all(from, contents)?;
+    // A loop, since each run is read before the next is known.
+    while !rest.is_empty() {
+        let length = 16 * read_u16(from)?;
+        let mut row = [0u8; 16];
+        read_all(from, &mut row)?;
+        if length == 0 || rest.len() < length {
+            return Err(Stop::End);
         }
-        done = next;
+        let (run, after) = rest.split_at_mut(length);
+        for (i, byte) in run.iter_mut().enumerate() {
+            *byte = row[i % 16];
+        }
+        rest = after;
     }
-    Ok(done)
+    Ok(())
 }
 
-// A run of equal rows to the book from index `at` on: the index after it, or `at` where there is
-// none that fits.
-fn read_run(from: &mut impl Read, book: &mut [u8], at: usize) -> io::Result<usize>
-    requires { at ≤ len book.old }
-    ensures { IfOk result (λ n. n ≤ len book.old) }
-{
-    let many = read_u16(from)?;
-    let mut row = [0u8; 16];
-    let n = read_full(from, &mut row)?;
-    if n < 16 {
-        return Ok(at);
+fn read_all(from: &mut impl Read, buf: &mut [u8]) -> Result<(), Stop> {
+    if read_full(from, buf)? < buf.len() {
+        return Err(Stop::End);
     }
-    let end = at + 16 * many;
-    if book.len() < end {
-        return Ok(at);
-    }
-    repeat(&row, &mut book[at..end]);
-    Ok(end)
+    Ok(())
 }
 
 // Reads until buf is full or the input ends: how many bytes went to the front of buf.
+// A loop, since `read_exact` does not say how many bytes there were where the input ends.
 fn read_full(from: &mut impl Read, buf: &mut [u8]) -> io::Result<usize>
     ensures { ReadsAtMost result buf.new }
 {
@@ -108,11 +117,4 @@ fn read_full(from: &mut impl Read, buf: &mut [u8]) -> io::Result<usize>
         done += n;
     }
     Ok(done)
-}
-
-// The row again and again.
-fn repeat(row: &[u8; 16], part: &mut [u8]) {
-    for i in 0..part.len() {
-        part[i] = row[i % 16];
-    }
 }

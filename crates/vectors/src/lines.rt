@@ -1,26 +1,54 @@
-// The line of a call: its name and every figure that it gives.
-ghost use Rattle.std.specs.Prelude.{◌<◌};
-
-use crate::figures::{end, figure, figures, list, start, triple};
-use netting::Netted;
+// The line of each call: its name, every entry of its result, and of a call that writes a checksum
+// of the output.
+use market_risk::{
+    REPORT, market_risk_charge, market_risk_check, market_risk_commodity_ladder,
+    market_risk_dearest, market_risk_interest_ladder, market_risk_join, market_risk_least_trade,
+    market_risk_net, market_risk_net_and_offset, market_risk_offset, market_risk_options,
+    market_risk_shortest, market_risk_small_bank, market_risk_table,
+};
 use std::io;
 use std::io::Write;
 
+fn write_line(to: &mut impl Write, name: &str, entries: &[u64]) -> io::Result<()> {
+    write_start(to, name, entries)?;
+    writeln!(to)
+}
+
+// The line of a call that writes.
+fn write_written(to: &mut impl Write, name: &str, entries: &[u64], out: &[u8]) -> io::Result<()> {
+    write_start(to, name, entries)?;
+    let sum = checksum(out);
+    writeln!(to, " {sum}")
+}
+
+fn write_start(to: &mut impl Write, name: &str, entries: &[u64]) -> io::Result<()> {
+    write!(to, "{name}")?;
+    for entry in entries {
+        write!(to, " {entry}")?;
+    }
+    Ok(())
+}
+
+// Over every byte of the output in order, by a prime below 2 to the 30th. A loop, since a closure
+// of `fold` would have to take every sum, and the bound of this one stands in the loop's invariant.
+fn checksum(out: &[u8]) -> u64 {
+    let mut sum = 0;
+    for byte in out {
+        sum = (sum * 31 + u64::from(*byte) + 1) % 1000000007;
+    }
+    sum
+}
+
 pub fn check(to: &mut impl Write, book: &[u8]) -> io::Result<()> {
-    start(to, b"check", book::check(book))?;
-    end(to)
+    let mut entries = [0; 3];
+    market_risk_check(book, &mut entries);
+    write_line(to, "check", &entries)
 }
 
 pub fn charge(to: &mut impl Write, book: &[u8], table: &[u8]) -> io::Result<()> {
-    let report = charges::charge(book, table);
-    start(to, b"charge", report.refusal)?;
-    figures(to, report)?;
-    figure(to, report.taken as u64)?;
-    let specifics = report.specifics;
-    list(to, specifics)?;
-    let generals = report.generals;
-    list(to, generals)?;
-    end(to)
+    let mut entries = [0; REPORT];
+    market_risk_charge(book, table, &mut entries);
+    write_line(to, "charge", &entries)
 }
 
 pub fn interest_ladder(
@@ -29,92 +57,28 @@ pub fn interest_ladder(
     table: &[u8],
     group: usize,
 ) -> io::Result<()> {
-    let ladder = charges::interest_ladder(book, table, group);
-    start(to, b"interest-ladder", ladder.refusal)?;
-    figure(to, ladder.figures.matches.gross)?;
-    figure(to, ladder.figures.matches.vertical)?;
-    figure(to, ladder.figures.matches.zone1)?;
-    figure(to, ladder.figures.matches.zone2)?;
-    figure(to, ladder.figures.matches.zone3)?;
-    figure(to, ladder.figures.matches.zones12)?;
-    figure(to, ladder.figures.matches.zones23)?;
-    figure(to, ladder.figures.matches.zones13)?;
-    figure(to, ladder.figures.matches.residual)?;
-    figure(to, ladder.figures.charge)?;
-    end(to)
+    let mut entries = [0; 13];
+    market_risk_interest_ladder(book, table, group, &mut entries);
+    write_line(to, "interest-ladder", &entries)
 }
 
 pub fn commodity_ladder(to: &mut impl Write, book: &[u8], group: usize) -> io::Result<()> {
-    let ladder = charges::commodity_ladder(book, group);
-    start(to, b"commodity-ladder", ladder.refusal)?;
-    figure(to, ladder.figures.matches)?;
-    figure(to, ladder.figures.carried)?;
-    figure(to, ladder.figures.residual)?;
-    figure(to, ladder.figures.charge)?;
-    end(to)
+    let mut entries = [0; 7];
+    market_risk_commodity_ladder(book, group, &mut entries);
+    write_line(to, "commodity-ladder", &entries)
 }
 
 pub fn small_bank(to: &mut impl Write, book: &[u8]) -> io::Result<()> {
-    let bank = charges::small_bank(book);
-    start(to, b"small-bank", bank.refusal)?;
-    figure(to, bank.exchange)?;
-    figure(to, bank.commodity)?;
-    figure(to, bank.total)?;
-    end(to)
+    let mut entries = [0; 6];
+    market_risk_small_bank(book, &mut entries);
+    write_line(to, "small-bank", &entries)
 }
 
 // Document 01's table, byte by byte.
 pub fn standard_table(to: &mut impl Write) -> io::Result<()> {
-    let table = table::standard();
-    to.write_all(b"table")?;
-    for i in 0..36usize {
-        figure(to, wide(table[i]))?;
-    }
-    end(to)
-}
-
-pub fn join(to: &mut impl Write, a: &[u8], b: &[u8], out: &mut [u8]) -> io::Result<()> {
-    let joined = join::join(a, b, out);
-    start(to, b"join", joined.refusal)?;
-    figure(to, joined.length as u64)?;
-    figure(to, checksum(out))?;
-    end(to)
-}
-
-pub fn net(to: &mut impl Write, book: &[u8], out: &mut [u8]) -> io::Result<()> {
-    let answer = netting::net(book, out);
-    netted(to, b"net", answer, out)
-}
-
-pub fn net_and_offset(to: &mut impl Write, book: &[u8], out: &mut [u8]) -> io::Result<()> {
-    let answer = offsetting::net_and_offset(book, out);
-    netted(to, b"net-and-offset", answer, out)
-}
-
-// The line of a call that nets.
-fn netted(to: &mut impl Write, name: &[u8], answer: Netted, out: &[u8]) -> io::Result<()> {
-    start(to, name, answer.refusal)?;
-    figure(to, answer.length as u64)?;
-    figure(to, answer.comparisons as u64)?;
-    figure(to, checksum(out))?;
-    end(to)
-}
-
-pub fn offset(to: &mut impl Write, book: &[u8], out: &mut [u8]) -> io::Result<()> {
-    let left = offsetting::offset(book, out);
-    start(to, b"offset", left.refusal)?;
-    figure(to, left.length as u64)?;
-    figure(to, checksum(out))?;
-    end(to)
-}
-
-pub fn shortest(to: &mut impl Write, book: &[u8], out: &mut [u8]) -> io::Result<()> {
-    let shown = shortest::shortest(book, out);
-    start(to, b"shortest", shown.refusal)?;
-    figure(to, shown.length as u64)?;
-    figure(to, shown.accepted as u64)?;
-    figure(to, checksum(out))?;
-    end(to)
+    let mut table = [0; 36];
+    market_risk_table(&mut table);
+    write_line(to, "table", &table.map(u64::from))
 }
 
 pub fn least_trade(
@@ -126,47 +90,49 @@ pub fn least_trade(
     side: usize,
     limit: u64,
 ) -> io::Result<()> {
-    let trade = trade::least_trade(book, table, group, band, side, limit);
-    start(to, b"least-trade", trade.refusal)?;
-    figure(to, trade.least.found as u64)?;
-    figure(to, trade.least.amount)?;
-    end(to)
+    let mut entries = [0; 5];
+    market_risk_least_trade(book, table, group, band, side, limit, &mut entries);
+    write_line(to, "least-trade", &entries)
 }
 
-pub fn options(to: &mut impl Write, table: &[u8], out: &mut [u8]) -> io::Result<()> {
-    let priced = options::options(table, out);
-    start(to, b"options", priced.refusal)?;
-    figure(to, priced.length as u64)?;
-    let gammas = priced.gammas;
-    triple(to, gammas)?;
-    let vegas = priced.vegas;
-    triple(to, vegas)?;
-    let report = priced.report;
-    figures(to, report)?;
-    figure(to, checksum(out))?;
-    end(to)
+pub fn join(to: &mut impl Write, a: &[u8], b: &[u8], out: &mut [u8]) -> io::Result<()> {
+    let mut entries = [0; 4];
+    market_risk_join(a, b, out, &mut entries);
+    write_written(to, "join", &entries, out)
+}
+
+pub fn net(to: &mut impl Write, book: &[u8], out: &mut [u8]) -> io::Result<()> {
+    let mut entries = [0; 5];
+    market_risk_net(book, out, &mut entries);
+    write_written(to, "net", &entries, out)
+}
+
+pub fn offset(to: &mut impl Write, book: &[u8], out: &mut [u8]) -> io::Result<()> {
+    let mut entries = [0; 4];
+    market_risk_offset(book, out, &mut entries);
+    write_written(to, "offset", &entries, out)
+}
+
+pub fn net_and_offset(to: &mut impl Write, book: &[u8], out: &mut [u8]) -> io::Result<()> {
+    let mut entries = [0; 5];
+    market_risk_net_and_offset(book, out, &mut entries);
+    write_written(to, "net-and-offset", &entries, out)
+}
+
+pub fn shortest(to: &mut impl Write, book: &[u8], out: &mut [u8]) -> io::Result<()> {
+    let mut entries = [0; 5];
+    market_risk_shortest(book, out, &mut entries);
+    write_written(to, "shortest", &entries, out)
 }
 
 pub fn dearest(to: &mut impl Write, rows: usize, most: u64, out: &mut [u8]) -> io::Result<()> {
-    let costed = dearest::dearest(rows, most, out);
-    start(to, b"dearest", costed.refusal)?;
-    figure(to, costed.length as u64)?;
-    figure(to, costed.total)?;
-    figure(to, checksum(out))?;
-    end(to)
+    let mut entries = [0; 5];
+    market_risk_dearest(rows, most, out, &mut entries);
+    write_written(to, "dearest", &entries, out)
 }
 
-fn wide(byte: u8) -> u64
-    ensures { result < 256 }
-{
-    byte as u64
-}
-
-// Over every byte of the output in order, by a prime below 2 to the 30th.
-fn checksum(out: &[u8]) -> u64 {
-    let mut sum = 0u64;
-    for i in 0..out.len() {
-        sum = (sum * 31 + wide(out[i]) + 1) % 1000000007;
-    }
-    sum
+pub fn options(to: &mut impl Write, table: &[u8], out: &mut [u8]) -> io::Result<()> {
+    let mut entries = [0; 17];
+    market_risk_options(table, out, &mut entries);
+    write_written(to, "options", &entries, out)
 }

@@ -3,10 +3,10 @@
 // off is read as if zeros followed, and 0 is its end.
 #![tactic(auto)]
 
-mod figures;
 mod input;
 mod lines;
 
+use input::{Form, Stop};
 use std::io;
 use std::io::{Read, Write};
 
@@ -16,166 +16,149 @@ const MOST_TABLE: usize = 256;
 // No stored book and no output is longer.
 const MOST_BOOK: usize = 65536;
 
-// A call by a table of its own.
-fn answer_by_table(
-    from: &mut impl Read,
-    to: &mut impl Write,
-    call: u8,
-    in_runs: bool,
-) -> io::Result<bool> {
-    let length = input::read_u16(from)?;
-    let mut space = [0u8; MOST_TABLE];
-    let n = input::read_book(from, &mut space, length, false)?;
-    if n != length {
-        return Ok(false);
-    }
-    if call == 16 {
-        return answer_trade(from, to, in_runs, &space[..n]);
-    }
-    answer_book(from, to, call, in_runs, &space[..n])
-}
-
-fn answer_book(
-    from: &mut impl Read,
-    to: &mut impl Write,
-    call: u8,
-    in_runs: bool,
-    table: &[u8],
-) -> io::Result<bool> {
+// A call on a book and a group, whose line `line` writes.
+fn answer_book<R: Read, W: Write, F: Fn(&mut W, &[u8], usize) -> io::Result<()>>(
+    from: &mut R,
+    to: &mut W,
+    form: Form,
+    line: F,
+) -> Result<(), Stop>
+    requires { F.IsAlwaysCallable line }
+{
     let group = input::read_u16(from)?;
     let length = input::read_u32(from)?;
     let mut space = [0u8; MOST_BOOK];
-    let n = input::read_book(from, &mut space, length, in_runs)?;
-    if n != length {
-        return Ok(false);
-    }
-    match call {
-        1 => lines::check(to, &space[..n])?,
-        2 => lines::charge(to, &space[..n], table)?,
-        3 => lines::interest_ladder(to, &space[..n], table, group)?,
-        9 => lines::small_bank(to, &space[..n])?,
-        _ => lines::commodity_ladder(to, &space[..n], group)?,
-    }
-    Ok(true)
+    let book = input::read_book(from, form, length, &mut space)?;
+    line(to, book, group)?;
+    Ok(())
 }
 
-// The least trade by a table, as a trade is stored: currency, band, side and limit.
+// A call by document 01's table, or by none. The call is a number, the tag that the stream has.
+fn answer_standard<R: Read, W: Write>(
+    from: &mut R,
+    to: &mut W,
+    form: Form,
+    call: u8,
+) -> Result<(), Stop> {
+    let table = table::standard();
+    match call {
+        1 => answer_book(from, to, form, |to, book, _| lines::check(to, book)),
+        2 => answer_book(
+            from,
+            to,
+            form,
+            |to, book, _| lines::charge(to, book, &table),
+        ),
+        3 => answer_book(from, to, form, |to, book, group| {
+            lines::interest_ladder(to, book, &table, group)
+        }),
+        4 => answer_book(from, to, form, lines::commodity_ladder),
+        9 => answer_book(from, to, form, |to, book, _| lines::small_bank(to, book)),
+        _ => Err(Stop::End),
+    }
+}
+
+// A call by a table of its own. The call is a number, the tag that the stream has.
+fn answer_by_table<R: Read, W: Write>(
+    from: &mut R,
+    to: &mut W,
+    form: Form,
+    call: u8,
+) -> Result<(), Stop> {
+    let length = input::read_u16(from)?;
+    let mut space = [0u8; MOST_TABLE];
+    let table = input::read_book(from, Form::Whole, length, &mut space)?;
+    match call {
+        6 => answer_book(from, to, form, |to, book, _| lines::charge(to, book, table)),
+        7 => answer_book(from, to, form, |to, book, group| {
+            lines::interest_ladder(to, book, table, group)
+        }),
+        _ => answer_trade(from, to, form, table),
+    }
+}
+
+// The least trade, as a trade is stored: currency, band, side and limit, and then the book.
 fn answer_trade(
     from: &mut impl Read,
     to: &mut impl Write,
-    in_runs: bool,
+    form: Form,
     table: &[u8],
-) -> io::Result<bool> {
+) -> Result<(), Stop> {
     let group = input::read_u16(from)?;
     let band = input::read_u16(from)?;
     let side = input::read_u16(from)?;
-    let limit = input::read_u64(from)?;
+    let limit = u64::from_le_bytes(input::read(from)?);
     let length = input::read_u32(from)?;
     let mut space = [0u8; MOST_BOOK];
-    let n = input::read_book(from, &mut space, length, in_runs)?;
-    if n != length {
-        return Ok(false);
-    }
-    lines::least_trade(to, &space[..n], table, group, band, side, limit)?;
-    Ok(true)
-}
-
-// A call by document 01's table, or by none.
-fn answer_standard(
-    from: &mut impl Read,
-    to: &mut impl Write,
-    call: u8,
-    in_runs: bool,
-) -> io::Result<bool> {
-    let table = table::standard();
-    answer_book(from, to, call, in_runs, &table)
-}
-
-fn answer_table(to: &mut impl Write) -> io::Result<bool> {
-    lines::standard_table(to)?;
-    Ok(true)
-}
-
-fn answer_join(from: &mut impl Read, to: &mut impl Write, in_runs: bool) -> io::Result<bool> {
-    let room = input::read_u32(from)?;
-    let a_length = input::read_u32(from)?;
-    let b_length = input::read_u32(from)?;
-    let mut a = [0u8; MOST_BOOK];
-    let mut b = [0u8; MOST_BOOK];
-    let m = input::read_book(from, &mut a, a_length, in_runs)?;
-    let n = input::read_book(from, &mut b, b_length, in_runs)?;
-    if m != a_length || n != b_length {
-        return Ok(false);
-    }
-    write_into(to, 5, &a[..m], &b[..n], room)
-}
-
-// Joins two books, nets the first, offsets it, does both, shows its refusal, or prices an option
-// table, into an output of as many bytes as there is room for, each 165 before.
-fn write_into(to: &mut impl Write, call: u8, a: &[u8], b: &[u8], room: usize) -> io::Result<bool> {
-    let mut out = [165u8; MOST_BOOK];
-    if out.len() < room {
-        return Ok(false);
-    }
-    let lent = &mut out[..room];
-    match call {
-        5 => lines::join(to, a, b, lent)?,
-        10 => lines::net(to, a, lent)?,
-        11 => lines::offset(to, a, lent)?,
-        12 => lines::net_and_offset(to, a, lent)?,
-        15 => lines::options(to, a, lent)?,
-        _ => lines::shortest(to, a, lent)?,
-    }
-    Ok(true)
+    let book = input::read_book(from, form, length, &mut space)?;
+    lines::least_trade(to, book, table, group, band, side, limit)?;
+    Ok(())
 }
 
 // A call that writes a book of one other, or of an option table.
-fn answer_written(
-    from: &mut impl Read,
-    to: &mut impl Write,
-    call: u8,
-    in_runs: bool,
-) -> io::Result<bool> {
+fn answer_written<R: Read, W: Write, F: Fn(&mut W, &[u8], &mut [u8]) -> io::Result<()>>(
+    from: &mut R,
+    to: &mut W,
+    form: Form,
+    line: F,
+) -> Result<(), Stop>
+    requires { F.IsAlwaysCallable line }
+{
     let room = input::read_u32(from)?;
     let length = input::read_u32(from)?;
     let mut space = [0u8; MOST_BOOK];
-    let n = input::read_book(from, &mut space, length, in_runs)?;
-    if n != length {
-        return Ok(false);
-    }
-    write_into(to, call, &space[..n], b"", room)
+    let book = input::read_book(from, form, length, &mut space)?;
+    let mut out = [165u8; MOST_BOOK];
+    line(to, book, lent(&mut out, room)?)?;
+    Ok(())
+}
+
+fn answer_join(from: &mut impl Read, to: &mut impl Write, form: Form) -> Result<(), Stop> {
+    let room = input::read_u32(from)?;
+    let a_length = input::read_u32(from)?;
+    let b_length = input::read_u32(from)?;
+    let mut a_space = [0u8; MOST_BOOK];
+    let mut b_space = [0u8; MOST_BOOK];
+    let a = input::read_book(from, form, a_length, &mut a_space)?;
+    let b = input::read_book(from, form, b_length, &mut b_space)?;
+    let mut out = [165u8; MOST_BOOK];
+    lines::join(to, a, b, lent(&mut out, room)?)?;
+    Ok(())
 }
 
 // The call that writes a book of no other.
-fn answer_dearest(from: &mut impl Read, to: &mut impl Write) -> io::Result<bool> {
+fn answer_dearest(from: &mut impl Read, to: &mut impl Write) -> Result<(), Stop> {
     let room = input::read_u32(from)?;
     let rows = input::read_u32(from)?;
-    let most = input::read_u32(from)?;
+    let most = u32::from_le_bytes(input::read(from)?);
     let mut out = [165u8; MOST_BOOK];
-    if out.len() < room {
-        return Ok(false);
-    }
-    lines::dearest(to, rows, most as u64, &mut out[..room])?;
-    Ok(true)
+    lines::dearest(to, rows, u64::from(most), lent(&mut out, room)?)?;
+    Ok(())
 }
 
-// Answers the next call of the stream, and whether there was one.
-fn answer_next(from: &mut impl Read, to: &mut impl Write) -> io::Result<bool> {
-    let tag = input::read_byte(from)?;
-    let in_runs = 128 <= tag;
-    let call = tag % 128;
-    match call {
-        1..=4 => answer_standard(from, to, call, in_runs),
-        5 => answer_join(from, to, in_runs),
-        6 => answer_by_table(from, to, 2, in_runs),
-        7 => answer_by_table(from, to, 3, in_runs),
-        8 => answer_table(to),
-        9 => answer_standard(from, to, call, in_runs),
-        10..=13 => answer_written(from, to, call, in_runs),
+// As many bytes of the output as there is room for.
+fn lent(out: &mut [u8], room: usize) -> Result<&mut [u8], Stop> {
+    if out.len() < room {
+        return Err(Stop::End);
+    }
+    Ok(&mut out[..room])
+}
+
+// Answers the next call of the stream, by its tag.
+fn answer_next(from: &mut impl Read, to: &mut impl Write) -> Result<(), Stop> {
+    let tag = u8::from_le_bytes(input::read(from)?);
+    let form = if tag < 128 { Form::Whole } else { Form::Runs };
+    match tag % 128 {
+        5 => answer_join(from, to, form),
+        6 | 7 | 16 => answer_by_table(from, to, form, tag % 128),
+        8 => Ok(lines::standard_table(to)?),
+        10 => answer_written(from, to, form, lines::net),
+        11 => answer_written(from, to, form, lines::offset),
+        12 => answer_written(from, to, form, lines::net_and_offset),
+        13 => answer_written(from, to, form, lines::shortest),
         14 => answer_dearest(from, to),
-        15 => answer_written(from, to, call, in_runs),
-        16 => answer_by_table(from, to, call, in_runs),
-        _ => Ok(false),
+        15 => answer_written(from, to, form, lines::options),
+        call => answer_standard(from, to, form, call),
     }
 }
 
@@ -185,8 +168,10 @@ fn main(rt: HostRuntime) -> io::Result<()> {
     let mut from = rt.stdin();
     let mut to = rt.stdout();
     for _ in 0..u64::MAX {
-        if !answer_next(&mut from, &mut to)? {
-            break;
+        match answer_next(&mut from, &mut to) {
+            Ok(()) => {}
+            Err(Stop::End) => break,
+            Err(Stop::Failed(error)) => return Err(error),
         }
     }
     Ok(())

@@ -1,104 +1,102 @@
 -- `amounts::write_book` meets its contract: the counts and the bodies make the book, if it fits.
-use mathlib.Core.Path.{◌≡◌, refl, sym, ap, ◌∙◌}
+use mathlib.Core.Path.{◌≡◌, sym, ap, ◌∙◌}
 use mathlib.Core.List.{List, flat_map}
 use Prim.Native.Nat.{ℕ, ◌+◌, ◌*◌, ◌≤◌, ◌<◌}
 use native.Mathlib.Omega.{arith}
-use lib.ListN.{length, length-map}
+use lib.ListN.{length}
 use Rattle.book.specs.declared.Counts.{Counts}
-use Rattle.book.specs.declared.Refusal.{Refusal}
-use Rattle.book.specs.Counts.{contents_size, row_size, classes, counts_of, count_in, count_of_rows, body_by, body_of}
-use Rattle.book.specs.Rows.{rows_in, rows_of, decode}
+use Rattle.book.specs.Counts.{contents_size, classes, counts_of, count_of_rows}
 use Rattle.book.specs.Refusals.{refused}
-use Rattle.book.specs.Inner.Reading.{part_rows}
-use Rattle.book.proofs.Bodies.{class_count_lem}
+use Rattle.book.specs.Reasons.{number_of, numbers_of, at_start}
+use Rattle.book.specs.declared.Reason.TheVariants.{Room}
+use Rattle.book.specs.declared.Refused.{Refused}
+use Rattle.book.specs.Accepted.{Accepted}
+use Rattle.book.proofs.Acceptance.{accepts_accepted}
 use Rattle.ladder.specs.Position.{Bands}
 use Rattle.layout.specs.Written.{written}
 use Rattle.layout.specs.Files.{contents_bytes}
-use Rattle.layout.specs.declared.Written.{Written}
-use Rattle.layout.specs.Room.{room_refusal, figure_of, written_of, output_of}
+use Rattle.layout.specs.Room.{room_refusal, output_of}
 use Rattle.layout.proofs.Writing.{written-length}
 use Rattle.layout.proofs.Whole.{contents_length}
-use Rattle.layout.proofs.Room.{no_room, enough_room}
-use Rattle.amounts.specs.Inner.Standing.{standing_book, CanStand}
+use Rattle.layout.proofs.Room.{no_room, enough_room, output_kept, refused_answer, length_answer}
+use Rattle.amounts.specs.Inner.Standing.{positions_in, standing_book}
 use Rattle.amounts.specs.Inner.Counting.{left_counts}
-use Rattle.amounts.specs.Inner.Writing.{standing_body, CanWrite}
+use Rattle.amounts.specs.Inner.Writing.{standing_body}
 use Rattle.amounts.proofs.Outcome.{size_is, bodies_size, writes-whole}
+use Rattle.amounts.proofs.write_book.Goals.{After-rows}
 use Rattle.amounts.proofs.write_book.Goals as goal
 
--- as many rows as the counts say
-part_count : (s : List ℕ) → length s ≡ contents_size + row_size * count_of_rows (counts_of s) → (class : ℕ)
-    → length (rows_in (body_by (counts_of s) s class)) ≡ count_in (counts_of s) class
-unfolding rows_of body_of
-part_count s sized class = class_count_lem s sized class
+-- by counts that are the book's own
+module _ {s : List ℕ} (ok : Accepted s) (positions : Bands) {counts : Counts} (own : counts ≡ counts_of s) where
+  abbrev book : List ℕ
+  book = standing_book positions s
+
+  module _ {left : Counts} (is_left : left ≡ left_counts positions counts) where
+    size : (rows : ℕ) → rows ≡ count_of_rows left → 8 + 16 * rows ≡ length book
+    size rows is_rows = rw (is_rows, is_left, own) (size_is s ok positions)
+
+    whole : (out : List ℕ) → length book ≤ length out → {out' after : List ℕ} → out' ≡ written out 0 (contents_bytes left)
+        → after ≡ written out' contents_size (flat_map (standing_body positions s) classes) → after ≡ written out 0 book
+    whole out room contents bodies = bodies ∙ rw (contents, is_left, own) (writes-whole s ok positions out room)
 
 -- the contents leave the output as long as it was
 contents_room : (out : List ℕ) (left : Counts) → contents_size ≤ length out → length (written out 0 (contents_bytes left)) ≡ length out
 contents_room out left h = written-length out (contents_bytes left) 0 (omega (arith, contents_length left))
 
--- the answer and the output
-record Answers (book out : List ℕ) (r : Written) (after : List ℕ) : Type 0 where
-  is : r ≡ written_of (room_refusal (length book) (length out)) book
-  output : after ≡ output_of r.refusal book out
+twelve : (refused 12 0).number ≡ 0 → ⊥
+unfolding refused
+twelve e = omega arith
 
--- by counts that are the book's own
-module _ (s : List ℕ) (positions : Bands) (can : CanStand s positions) (counts : Counts) (own : counts ≡ counts_of s) where
-  few : count_of_rows counts ≤ 4000
-  few = rw own can.accepted.few
-
-  abbrev book : List ℕ
-  book = standing_book positions s
-
-  size : {left : Counts} (rows : ℕ) → left ≡ left_counts positions counts → rows ≡ count_of_rows left → 8 + 16 * rows ≡ length book
-  size rows is-left is_rows = rw (is_rows, is-left, own) (size_is s can.accepted positions)
-
-  writes : (room : ℕ) → length book ≤ room → CanWrite s counts positions room
-  writes room fits =
-      rw own (record { few = can.accepted.few; sizes = sizes; within = can.within; fits = omega (arith, bodies_size s can.accepted positions) })
-    where
-      sizes : (class : ℕ) → length (part_rows (body_by (counts_of s) s class)) ≡ count_in (counts_of s) class
-      sizes class = length-map (rows_in (body_by (counts_of s) s class)) decode ∙ part_count s can.accepted.sized class
-
-  -- ---- the whole call
-  too_short : (out : List ℕ) {left : Counts} (rows : ℕ) → left ≡ left_counts positions counts → rows ≡ count_of_rows left → length out < 8 + 16 * rows
-      → {refusal : Refusal} → refusal ≡ refused 12 0 → Answers book out (record { refusal = refusal; length = 0 }) out
-  unfolding written_of figure_of output_of refused
-  too_short out rows is-left is_rows h none =
-      let short = no_room (length book) (length out) (omega (arith, size rows is-left is_rows)) in
-      rw none (record { is = rw short; output = refl })
-
-  done : (out : List ℕ) {left : Counts} (rows : ℕ) → left ≡ left_counts positions counts → rows ≡ count_of_rows left → 8 + 16 * rows ≤ length out
-      → {refusal : Refusal} → refusal ≡ refused 0 0 → {out' after : List ℕ} → out' ≡ written out 0 (contents_bytes left)
-      → after ≡ written out' contents_size (flat_map (standing_body positions counts s) classes)
-      → Answers book out (record { refusal = refusal; length = 8 + 16 * rows }) after
-  unfolding written_of figure_of output_of refused
-  done out rows is-left is_rows h none {out'} {after} contents bodies =
-      let room : length book ≤ length out = omega (arith, size rows is-left is_rows) in
-      let fits = enough_room (length book) (length out) room in
-      let whole : written out 0 book ≡ written (written out 0 (contents_bytes (left_counts positions counts))) contents_size (flat_map (standing_body positions counts s) classes) =
-      rw own (sym (writes-whole s can.accepted positions out room)) in
-      let all : after ≡ written out 0 book = bodies ∙ rw (contents, is-left) (sym whole) in
-      rw (none, size rows is-left is_rows, all) (record { is = rw fits; output = refl })
+-- 12 in numbers
+room_number : {r : Refused} → r ≡ at_start Room → numbers_of r ≡ refused 12 0
+unfolding numbers_of number_of refused
+room_number is = ap numbers_of is
 
 pub left_counts-left-requires : goal.left_counts-left-requires
-left_counts-left-requires c =
-    few _ _ c.requires.1 _ c.requires.0
+left_counts-left-requires c = rw c.args.book.own (accepts_accepted _ c.args.book.accepted).few
 
-pub returns-then-out-length : goal.returns-then-out-length
-returns-then-out-length c =
-    let answers = too_short _ _ c.requires.1 _ c.requires.0 c.args.out.now c.rows.result c.left_counts-left.ensures c.rows.ensures.0
-    c.if-out-length.true c.refused.ensures in
-    (answers.is, answers.output)
+-- the book that is to be written is as long as the counts say: it has room, or not
+module _ (c : After-rows) where
+  abbrev whole_book : List ℕ
+  whole_book = standing_book (positions_in c.args.amounts.now) c.args.book.bytes.now
+
+  ok : Accepted c.args.book.bytes.now
+  ok = accepts_accepted _ c.args.book.accepted
+
+  long : 8 + 16 * c.rows.result ≡ length whole_book
+  long = size ok _ c.args.book.own c.left_counts-left.ensures _ c.rows.ensures.0
+
+  short : length c.args.out.now < 8 + 16 * c.rows.result → room_refusal (length whole_book) (length c.args.out.now) ≡ refused 12 0
+  short h = no_room (length whole_book) (length c.args.out.now) (omega (arith, long))
+
+  room : 8 + 16 * c.rows.result ≤ length c.args.out.now → length whole_book ≤ length c.args.out.now
+  room h = omega (arith, long)
+
+  enough : 8 + 16 * c.rows.result ≤ length c.args.out.now → room_refusal (length whole_book) (length c.args.out.now) ≡ refused 0 0
+  enough h = enough_room (length whole_book) (length c.args.out.now) (room h)
+
+pub returns-then-out-length-clause-length : goal.returns-then-out-length-clause-length
+returns-then-out-length-clause-length c =
+    rw (short (goal.at.returns-then-out-length-clause-length c).After-rows c.if-out-length.true) (refused_answer _ _ (room_number c.into.ensures))
+
+pub returns-then-out-length-clause-output : goal.returns-then-out-length-clause-output
+returns-then-out-length-clause-output c =
+    rw (short (goal.at.returns-then-out-length-clause-output c).After-rows c.if-out-length.true) (sym (output_kept (refused 12 0) twelve _ _))
 
 pub write_bodies-requires : goal.write_bodies-requires
 write_bodies-requires c =
-    let fits = size _ _ c.requires.1 _ c.requires.0 c.rows.result c.left_counts-left.ensures c.rows.ensures.0 in
-    let room = c.if-out-length.false in
-    let same = ap length c.write_contents.ensures ∙ contents_room c.args.out.now _ (omega (arith, room)) in
-    writes _ _ c.requires.1 _ c.requires.0 _ (omega (arith, fits, same, room))
+    let turn = (goal.at.write_bodies-requires c).After-rows in
+    let same = ap length c.write_contents.ensures ∙ contents_room c.args.out.now _ (omega arith) in
+    record { can = c.requires; fits = omega (arith, room turn c.if-out-length.false, same, bodies_size _ (ok turn) (positions_in c.args.amounts.now)) }
 
-pub returns : goal.returns
-returns c =
-    let answers = done _ _ c.requires.1 _ c.requires.0 c.args.out.now c.rows.result c.left_counts-left.ensures c.rows.ensures.0
-    c.if-out-length.false c.refused-2.ensures
-    c.write_contents.ensures c.write_bodies.ensures in
-    (answers.is, answers.output)
+pub returns-clause-length : goal.returns-clause-length
+returns-clause-length c =
+    let turn = (goal.at.returns-clause-length c).After-rows in
+    rw (enough turn c.if-out-length.false) (length_answer _ (long turn))
+
+pub returns-clause-output : goal.returns-clause-output
+unfolding output_of refused
+returns-clause-output c =
+    let turn = (goal.at.returns-clause-output c).After-rows in
+    rw (enough turn c.if-out-length.false)
+    (whole (ok turn) _ c.args.book.own c.left_counts-left.ensures c.args.out.now (room turn c.if-out-length.false) c.write_contents.ensures c.write_bodies.ensures)

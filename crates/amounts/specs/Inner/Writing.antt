@@ -1,16 +1,14 @@
 -- The rows with their amounts as bytes, and what is asked of a book and an output.
-use Rattle.std.specs.Prelude.{ℕ, ◌+◌, ◌≤◌, ◌<◌, ◌≡◌, length}
+use Rattle.std.specs.Prelude.{ℕ, ◌+◌, ◌≤◌, ◌<◌, length}
 use mathlib.Core.List.{List, [], flat_map}
-use Rattle.book.specs.declared.Counts.{Counts}
-use Rattle.book.specs.Counts.{contents_size, classes, count_in, rows_before, count_of_rows, body_by}
+use Rattle.book.specs.Counts.{contents_size, classes}
 use Rattle.book.specs.declared.Row.{Row}
-use Rattle.book.specs.Inner.Reading.{part_rows}
 use Rattle.book.specs.Refusals.{most_rows, most_amount}
 use Rattle.ladder.specs.declared.positions.Position.{Position}
 use Rattle.ladder.specs.Position.{Bands, gross}
 use Rattle.layout.specs.Files.{row_bytes}
 use Rattle.issues.specs.Issues.{placed}
-use Rattle.amounts.specs.Inner.Standing.{standing_rows}
+use Rattle.amounts.specs.Inner.Standing.{standing_rows, standing, CanStand}
 
 -- the bytes of a row with its amounts, none where these are zero
 abbrev pub placed_bytes : Row → Position → List ℕ
@@ -27,12 +25,10 @@ pub record CanWriteRows (positions : Bands) (first : ℕ) (rows : List Row) (at 
   pub fits : at + length (standing_bytes positions first rows) ≤ room
 
 -- the body of a class
-unfoldable pub standing_body : Bands → Counts → List ℕ → ℕ → List ℕ
-standing_body positions counts s class = standing_bytes positions (rows_before counts class) (part_rows (body_by counts s class))
+abbrev pub standing_body : Bands → List ℕ → ℕ → List ℕ
+standing_body positions s class = flat_map row_bytes (standing positions s class)
 
 -- what is asked of a book and an output of so many bytes
-pub record CanWrite (s : List ℕ) (counts : Counts) (positions : Bands) (room : ℕ) : Type 0 where
-  pub few : count_of_rows counts ≤ most_rows
-  pub sizes : (class : ℕ) → length (part_rows (body_by counts s class)) ≡ count_in counts class
-  pub within : (k : ℕ) → k < count_of_rows counts → gross (positions k) ≤ most_amount
-  pub fits : contents_size + length (flat_map (standing_body positions counts s) classes) ≤ room
+pub record CanWrite (s : List ℕ) (positions : Bands) (room : ℕ) : Type 0 where
+  pub can : CanStand s positions
+  pub fits : contents_size + length (flat_map (standing_body positions s) classes) ≤ room

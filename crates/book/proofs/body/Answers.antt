@@ -9,5 +9,5 @@ unfolding body_by
 returns c =
     let counts = c.args.counts in
     let class = c.args.class in
-    rw (c.least-end.ensures, c.least-start.ensures, c.rows_before.ensures.0, c.class_rows.ensures)
+    rw (c.min-2.ensures, c.min.ensures, c.rows_before.ensures.0, c.from.ensures, c.class_rows.ensures)
     (cut c.args.book.now (contents_size + row_size * rows_before counts class) (row_size * count_in counts class))

@@ -1,8 +1,12 @@
 -- `book::check` meets its contract: it gives the refusal that the reader gives.
-use mathlib.Core.Path.{ap}
-use Rattle.book.specs.Inner.Reading.{Checked, checked_with, checked_of}
+use Rattle.book.specs.Reasons.{told}
+use Rattle.book.proofs.Numbers.{told_on}
 use Rattle.book.proofs.check.Goals as goal
 
+pub returns-in_err-read : goal.returns-in_err-read
+unfolding told
+returns-in_err-read c = told_on _ _ c.from_residual.ensures.1 c.in_err-read.ensures.refusal
+
 pub returns : goal.returns
-unfolding checked_of checked_with
-returns c = ap (λ (checked : Checked). checked.refusal) c.read-checked.ensures.is
+unfolding told
+returns c = c.in_ok-read.ensures.refusal

@@ -1,20 +1,22 @@
--- `book::hand` meets its contract: the test is the definition's, and the counts are the book's own.
-use mathlib.Core.Path.{ap}
-use borrow.Author.Tests.{eq-eqb, ne_eqb}
-use Rattle.book.specs.Inner.Reading.{Checked, checked_with, checked_of}
-use Rattle.book.specs.Parts.{accepts, part_start, part_length, handed_of}
+-- `book::hand` meets its contract: what lies where is handed of an accepted book alone.
+use mathlib.Core.Path.{ap, ◌∙◌}
+use Prim.Native.Nat.{ℕ, ◌*◌}
+use mathlib.Core.List.{List}
+use Rattle.book.specs.Counts.{Counts, row_size, counts_of, count_in}
+use Rattle.book.specs.Parts.{start_by}
+use Rattle.book.specs.Reasons.{told}
+use Rattle.book.proofs.Handing.{handed_refused, handed_accepted}
 use Rattle.book.proofs.hand.Goals as goal
 
-pub returns-then-refusal-ne0 : goal.returns-then-refusal-ne0
-unfolding checked_of checked_with accepts part_start part_length handed_of
-returns-then-refusal-ne0 c =
-    let is = ap (λ (r : Checked). r.refusal) c.read-checked.ensures.is in
-    simp (← is, ne_eqb _ _ c.if-refusal-ne0.true)
+pub returns-in_err-counts : goal.returns-in_err-counts
+unfolding told
+returns-in_err-counts c = handed_refused _ _ _ _ c.from_residual.ensures.1 c.in_err-counts.ensures.refusal
 
 pub returns : goal.returns
-unfolding checked_of checked_with accepts part_start part_length handed_of
+unfolding told
 returns c =
-    let read = c.read-checked.ensures in
-    let is = ap (λ (r : Checked). r.refusal) read.is in
-    let passed = c.if-refusal-ne0.false in
-    simp (← is, eq-eqb _ _ passed, ← read.own passed, c.start.ensures, c.class_rows.ensures)
+    let read = c.in_ok-counts in
+    let own = read.field-0.own ∙ ap counts_of read.ensures.bytes in
+    handed_accepted _ _ read.ensures.refusal _ _
+    (c.start.ensures ∙ ap (λ (counts : Counts). start_by counts c.args.class) own)
+    (ap (λ (n : ℕ). row_size * n) (c.from.ensures ∙ c.class_rows.ensures ∙ ap (λ (counts : Counts). count_in counts c.args.class) own))

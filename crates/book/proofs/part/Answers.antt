@@ -1,29 +1,19 @@
--- `book::part` meets its contract: the part lies where it is handed, and ends within the book.
-use mathlib.Core.Path.{◌≡◌}
-use Prim.Native.Nat.{◌+◌, ◌-◌, ◌≤◌}
-use native.Mathlib.Omega.{arith}
-use lib.ListN.{length}
-use Rattle.book.specs.Parts.{handed_of}
-use Rattle.book.proofs.Handing.{part_lies, part_within}
-use Rattle.book.proofs.part.Goals.{After-struct_known-1}
+-- `book::part` meets its contract: of an accepted book its body, of a refused one nothing.
+use mathlib.Core.Path.{sym, ap, ◌∙◌}
+use mathlib.Core.List.{List}
+use Prim.Native.Nat.{ℕ}
+use Rattle.book.specs.Counts.{body_of}
+use Rattle.book.specs.Reasons.{told}
+use Rattle.book.proofs.Handing.{passed_accepts, refused_accepts, part_accepted, part_refused}
 use Rattle.book.proofs.part.Goals as goal
 
-ends : (c : After-struct_known-1)
-    → c.hand-handed.result.start + c.hand-handed.result.length
-    ≤ length c.args.book.now
-unfolding handed_of
-ends c = rw c.hand-handed.ensures (part_within _ _)
+pub returns-in-Ok : goal.returns-in-Ok
+unfolding told
+returns-in-Ok c =
+    c.body.ensures
+    ∙ ap (λ (s : List ℕ). body_of s c.args.class) c.in-Ok.ensures.bytes
+    ∙ sym (part_accepted _ _ (passed_accepts _ c.in-Ok.ensures.refusal))
 
-pub overflow_add-end : goal.overflow_add-end
-overflow_add-end c = omega (arith, ends (goal.at.overflow_add-end c).After-struct_known-1)
-
-pub slice_bounds-result-end : goal.slice_bounds-result-end
-slice_bounds-result-end c = ends (goal.at.slice_bounds-result-end c).After-struct_known-1
-
-pub returns : goal.returns
-unfolding handed_of
-returns c =
-    let handed = c.hand-handed in
-    let start = handed.result.start in
-    let many : start + handed.result.length - start ≡ handed.result.length = omega arith in
-    rw (many, handed.ensures) (part_lies _ _)
+pub returns-in-Err : goal.returns-in-Err
+unfolding told
+returns-in-Err c = sym (part_refused _ _ (refused_accepts _ _ c.in-Err.ensures.refusal))

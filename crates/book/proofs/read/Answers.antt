@@ -1,27 +1,44 @@
 -- `book::read` meets its contract: the contents are refused, or they pass and the search gives the refusal of the rows.
 use mathlib.Core.Path.{◌≡◌, sym, ◌∙◌}
-use Rattle.book.specs.Refusals.{contents_refusal}
+use borrow.Author.Tests.{eq-eqb}
+use Rattle.book.specs.Refusals.{contents_refusal, first_refusal, refusal_of}
+use Rattle.book.specs.Reasons.{number_in, numbers_of, told}
+use Rattle.book.proofs.Numbers.{told_on, told_at_start, some_of}
 use Rattle.book.proofs.Acceptance.{contents_sized}
-use Rattle.book.proofs.Handing.{refused-checked, passed-checked, read_of}
-use Rattle.book.proofs.read.Goals.{Else-number-ne0}
+use Rattle.book.proofs.Handing.{refused_contents, passed_contents, passed_accepts, accepted_reads}
 use Rattle.book.proofs.read.Goals as goal
 
-pub returns-then-number-ne0 : goal.returns-then-number-ne0
-returns-then-number-ne0 c =
-    let checked = refused-checked _ _ c.contents_refusal-number.ensures c.if-number-ne0.true in
-    read_of _ (cc)
-
--- the contents passed
-passed : (c : Else-number-ne0) → contents_refusal c.args.book.now ≡ 0
-passed c = sym c.contents_refusal-number.ensures ∙ c.if-number-ne0.false
-
-pub counts-counts-requires : goal.counts-counts-requires
-counts-counts-requires c = (contents_sized _ (passed (goal.at.counts-counts-requires c).Else-number-ne0)).contents
+pub returns-in_err-counts-clause-refusal : goal.returns-in_err-counts-clause-refusal
+unfolding number_in
+returns-in_err-counts-clause-refusal c =
+    let found = c.in_err-counts.ensures.number in
+    told_at_start _ _ c.from_residual.ensures.1 found ∙ sym (refused_contents _ (some_of _ found))
 
 pub first_refused-requires : goal.first_refused-requires
-first_refused-requires c = (c.counts-counts.ensures, contents_sized _ (passed (goal.at.first_refused-requires c).Else-number-ne0))
+unfolding number_in
+first_refused-requires c =
+    (c.in_ok-counts.ensures.counts, contents_sized _ (sym c.in_ok-counts.ensures.number))
 
-pub returns : goal.returns
-returns c =
-    let checked = passed-checked _ (passed (goal.at.returns c).Else-number-ne0) in
-    read_of _ (cc)
+pub returns-in_err-first_refused-clause-refusal : goal.returns-in_err-first_refused-clause-refusal
+unfolding number_in told
+returns-in_err-first_refused-clause-refusal c =
+    told_on _ _ c.from_residual-in_err-first_refused.ensures.1 c.in_err-first_refused.ensures
+    ∙ sym (passed_contents _ (sym c.in_ok-counts.ensures.number))
+
+pub invariant_of-result : goal.invariant_of-result
+unfolding number_in told
+invariant_of-result c =
+    record {
+      accepted = passed_accepts _ (c.in_ok-first_refused.ensures ∙ sym (passed_contents _ (sym c.in_ok-counts.ensures.number)));
+      own = c.in_ok-counts.ensures.counts;
+    }
+
+pub returns-clause-refusal : goal.returns-clause-refusal
+unfolding number_in told
+returns-clause-refusal c = c.in_ok-first_refused.ensures ∙ sym (passed_contents _ (sym c.in_ok-counts.ensures.number))
+
+pub returns-clause-parts : goal.returns-clause-parts
+unfolding number_in told
+returns-clause-parts c =
+    let passed = c.in_ok-first_refused.ensures ∙ sym (passed_contents _ (sym c.in_ok-counts.ensures.number)) in
+    accepted_reads _ (passed_accepts _ passed) c.in_ok-counts.ensures.counts

@@ -1,13 +1,16 @@
 -- Where the sums of a leg stand in the code's tables, and what the leg adds to each.
-use Rattle.std.specs.Prelude.{ℕ, ◌+◌, ◌-◌, ◌*◌, ◌≤◌, ◌<◌, ◌≡◌, cond, ◌||◌, List, eqb, length, get_or, replicate}
+use Rattle.std.specs.Prelude.{ℕ, ◌+◌, ◌-◌, ◌*◌, ◌≤◌, ◌<◌, ◌≡◌, cond, ◌||◌, List, eqb, length, get_or, set, replicate}
 use Rattle.sums.specs.Inner.Tables.{tally, placed}
 use Rattle.book.specs.declared.Row.{Row}
 use Rattle.book.specs.Legs.{Leg}
 use Rattle.book.specs.Refusals.{last_group, most_rows, most_amount}
 use Rattle.ladder.specs.Commodity.{commodity_band_count}
-use Rattle.ladder.specs.Inner.Steps.{band_count}
+use Rattle.ladder.specs.declared.positions.Position.{Position}
+use Rattle.ladder.specs.Position.{◌⊕◌, empty}
+use Rattle.ladder.specs.Inner.Steps.{band_count, bands, longs_of, shorts_of}
 use Rattle.charges.specs.Bands.{band_in}
 use Rattle.charges.specs.Charges.{eight_per_cent, specific_of}
+pub use Rattle.charges.specs.declared.adding.Sums.{Sums}
 
 -- ---- the slots
 -- the groups of a class
@@ -62,34 +65,39 @@ unfoldable pub leg_counted : Leg → ℕ
 leg_counted leg = cond (eqb leg.class 1 || eqb leg.class 4) 1 0
 
 -- ---- the tables
+-- the position of a row
+abbrev pub amounts_of : Row → Position
+amounts_of row = record { long = row.long; short = row.short }
+
 -- the sums of some legs: longs and shorts by slot, and by class and group the specific charges and the rows of ladders
-pub record LegSums (legs : List Leg) (longs shorts specifics rows : List ℕ) : Type 0 where
-  pub is_longs : longs ≡ tally leg_slot leg_long (replicate slot_count 0) legs
-  pub is_shorts : shorts ≡ tally leg_slot leg_short (replicate slot_count 0) legs
+pub record LegSums (legs : List Leg) (positions : List Position) (specifics rows : List ℕ) : Type 0 where
+  pub is_longs : longs_of positions ≡ tally leg_slot leg_long (replicate slot_count 0) legs
+  pub is_shorts : shorts_of positions ≡ tally leg_slot leg_short (replicate slot_count 0) legs
   pub is_specifics : specifics ≡ tally group_slot leg_specific (replicate group_slots 0) legs
   pub is_rows : rows ≡ tally group_slot leg_counted (replicate group_slots 0) legs
 
--- tables of zeros
-pub record Clear (longs shorts specifics rows : List ℕ) : Type 0 where
-  pub no_longs : longs ≡ replicate slot_count 0
-  pub no_shorts : shorts ≡ replicate slot_count 0
-  pub no_specifics : specifics ≡ replicate group_slots 0
-  pub no_rows : rows ≡ replicate group_slots 0
+-- sums of no rows: nothing
+pub record Clear (sums : Sums) : Type 0 where
+  pub no_positions : sums.positions ≡ replicate slot_count empty
+  pub no_specifics : sums.specifics ≡ replicate group_slots 0
+  pub no_rows : sums.rows ≡ replicate group_slots 0
 
 -- a table in which each slot has room for what one leg more adds at most, up to 4,000 legs
 pub record Roomy (size most : ℕ) (table : List ℕ) : Type 0 where
   pub sized : length table ≡ size
   pub room : (k : ℕ) → k < size → get_or table k 0 + most ≤ most * most_rows
 
-pub record Room (longs shorts specifics rows : List ℕ) : Type 0 where
-  pub in_longs : Roomy slot_count most_amount longs
-  pub in_shorts : Roomy slot_count most_amount shorts
-  pub in_specifics : Roomy group_slots (eight_per_cent * most_amount) specifics
-  pub in_rows : Roomy group_slots 1 rows
+pub record Room (sums : Sums) : Type 0 where
+  pub in_longs : Roomy slot_count most_amount (longs_of sums.positions)
+  pub in_shorts : Roomy slot_count most_amount (shorts_of sums.positions)
+  pub in_specifics : Roomy group_slots (eight_per_cent * most_amount) sums.specifics
+  pub in_rows : Roomy group_slots 1 sums.rows
 
--- the tables with one leg more
-pub record Added (leg : Leg) (longs shorts specifics rows longs' shorts' specifics' rows' : List ℕ) : Type 0 where
-  pub to_longs : longs' ≡ placed leg_slot leg_long longs leg
-  pub to_shorts : shorts' ≡ placed leg_slot leg_short shorts leg
-  pub to_specifics : specifics' ≡ placed group_slot leg_specific specifics leg
-  pub to_rows : rows' ≡ placed group_slot leg_counted rows leg
+-- the sums with one leg more
+unfoldable pub with_leg : Leg → Sums → Sums
+with_leg leg sums =
+    record {
+      positions = set sums.positions (leg_slot leg) (bands sums.positions (leg_slot leg) ⊕ amounts_of leg.row);
+      specifics = placed group_slot leg_specific sums.specifics leg;
+      rows = placed group_slot leg_counted sums.rows leg;
+    }

@@ -1,9 +1,9 @@
 -- What the code reads out of its tables of sums.
 use Rattle.std.specs.Prelude.{ℕ, ◌+◌, ◌*◌, ◌≤◌, ◌≡◌, cond, List, [], ◌∷◌, eqb, get_or, take}
-use Rattle.sums.specs.Sums.{sum_of, span}
+use Rattle.sums.specs.Sums.{span}
 use Rattle.book.specs.Refusals.{most_rows, most_amount}
-use Rattle.ladder.specs.Position.{Bands, gross, total}
-use Rattle.ladder.specs.declared.Percents.{Percents}
+use Rattle.ladder.specs.declared.positions.Position.{Position}
+use Rattle.ladder.specs.Position.{Bands, empty, gross, total}
 use Rattle.ladder.specs.declared.Table.{Table}
 use Rattle.ladder.specs.Table.{weight_in}
 use Rattle.ladder.specs.Commodity.{commodity_band_count}
@@ -16,22 +16,20 @@ pub use Rattle.charges.specs.declared.tables.Used.{Used}
 abbrev pub most_gross : ℕ
 most_gross = most_amount * most_rows
 
--- a ladder table of weights and per cents
-abbrev pub table_with : List ℕ → Percents → Table
-table_with weights percents = record { weights = weights; percents = percents }
-
 -- the bands from a slot on
-abbrev pub bands_from : List ℕ → List ℕ → ℕ → Bands
-bands_from longs shorts first = λ k. record { long = get_or longs (first + k) 0; short = get_or shorts (first + k) 0 }
+abbrev pub bands_from : List Position → ℕ → Bands
+bands_from positions first = λ k. get_or positions (first + k) empty
 
 -- what so many bands from a slot on come to on both sides
-abbrev pub gross_from : ℕ → List ℕ → List ℕ → ℕ → ℕ
-gross_from many longs shorts first = gross (total (bands_from longs shorts first) (span 0 many))
+abbrev pub gross_from : ℕ → List Position → ℕ → ℕ
+gross_from many positions first = gross (total (bands_from positions first) (span 0 many))
 
--- the weighted bands from a slot on
-abbrev pub weighted_from : Table → List ℕ → List ℕ → ℕ → Bands
-weighted_from table longs shorts first =
-    λ k. record { long = weight_in table k * get_or longs (first + k) 0; short = weight_in table k * get_or shorts (first + k) 0 }
+-- a position times its weight; and the weighted bands from a slot on
+abbrev pub weighted : ℕ → Position → Position
+weighted weight position = record { long = weight * position.long; short = weight * position.short }
+
+abbrev pub weighted_from : Table → List Position → ℕ → Bands
+weighted_from table positions first = λ k. weighted (weight_in table k) (bands_from positions first k)
 
 -- the first slot of a currency, and of a commodity
 abbrev pub currency_at : ℕ → ℕ
@@ -40,12 +38,12 @@ currency_at group = band_count * group
 abbrev pub commodity_at : ℕ → ℕ
 commodity_at group = commodity_first + commodity_band_count * group
 
--- what a commodity's bands come to on one side, from a slot on; and the position of each commodity, whatever its bands
-abbrev pub band_sum : List ℕ → ℕ → ℕ
-band_sum table first = sum_of (λ k. get_or table (first + k) 0) (span 0 commodity_band_count)
+-- what a commodity's bands come to, from a slot on; and the position of each commodity, whatever its bands
+abbrev pub band_sum : List Position → ℕ → Position
+band_sum positions first = total (bands_from positions first) (span 0 commodity_band_count)
 
-abbrev pub commodity_groups : List ℕ → List ℕ → Bands
-commodity_groups longs shorts = λ group. record { long = band_sum longs (commodity_at group); short = band_sum shorts (commodity_at group) }
+abbrev pub commodity_groups : List Position → Bands
+commodity_groups positions = λ group. band_sum positions (commodity_at group)
 
 -- the groups of a list that are counted, in their order
 unfoldable pub counted_groups : (ℕ → ℕ) → List ℕ → List ℕ

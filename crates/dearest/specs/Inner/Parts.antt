@@ -1,11 +1,9 @@
--- The contents and the rows of the dearest book, and an answer by its parts.
+-- The contents and the rows of the dearest book.
 use Rattle.std.specs.Prelude.{ℕ, replicate}
 use mathlib.Core.List.{List, flat_map}
 use Rattle.book.specs.declared.Counts.{Counts}
 use Rattle.book.specs.declared.Row.{Row}
-use Rattle.book.specs.Refusals.{refused}
 use Rattle.layout.specs.Files.{row_bytes}
-use Rattle.dearest.specs.Dearest.{Costed}
 
 -- so many rows of interest, and no others
 unfoldable pub interest_alone : ℕ → Counts
@@ -14,7 +12,3 @@ interest_alone rows = record { interest = rows; equity = 0; exchange = 0; commod
 -- the bytes of one row, so many times
 unfoldable pub row_times : ℕ → Row → List ℕ
 row_times rows row = flat_map row_bytes (replicate rows row)
-
--- an answer from its parts
-unfoldable pub answer_of : (number length total : ℕ) → Costed
-answer_of number length total = record { refusal = refused number 0; length = length; total = total }

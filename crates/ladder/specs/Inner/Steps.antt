@@ -1,10 +1,10 @@
 -- What the code's functions promise: the value, and what follows of it for the sums that a caller makes.
-use Rattle.std.specs.Prelude.{ℕ, ◌+◌, ◌*◌, ◌≤◌, ◌≡◌, cond, List, ltb, get_or}
-use Rattle.ladder.specs.Position.{Position, Bands, ◌⊕◌, gross, matched, net, total, vertical, band_nets}
+use Rattle.std.specs.Prelude.{ℕ, ◌+◌, ◌*◌, ◌≤◌, ◌≡◌, cond, List, map, ltb, get_or}
+use Rattle.ladder.specs.Position.{Position, Bands, empty, ◌⊕◌, gross, matched, net, total, vertical, band_nets}
 use Rattle.ladder.specs.Table.{Percents, Table, AcceptedPercents, most_weight, weight_in}
 use Rattle.ladder.specs.Interest.{Ladder, LadderStep, Matches, InterestFigures, against, left, together, crossing, charge, all_bands, zones, interest_figures}
 use Rattle.ladder.specs.Commodity.{CommodityFigures, commodity_figures, commodity_bands}
-pub use Rattle.ladder.specs.declared.positions.PositionStep.{PositionStep}
+use Rattle.ladder.specs.declared.positions.Step.{Step}
 pub use Rattle.ladder.specs.declared.positions.Offset.{Offset}
 pub use Rattle.ladder.specs.declared.bands.Zone.{Zone}
 pub use Rattle.ladder.specs.declared.whole.Gathered.{Gathered}
@@ -28,11 +28,22 @@ pub record TableBounds (table : Table) : Type 0 where
 abbrev pub band_count : ℕ
 band_count = 15
 
--- the bands whose sums stand in two arrays
-abbrev pub bands : List ℕ → List ℕ → Bands
-bands longs shorts = λ k. record { long = get_or longs k 0; short = get_or shorts k 0 }
+-- the bands whose positions stand in an array: nothing past its end
+abbrev pub bands : List Position → Bands
+bands positions = λ k. get_or positions k empty
+
+-- its longs, and its shorts
+abbrev pub longs_of : List Position → List ℕ
+longs_of positions = map (λ position. position.long) positions
+
+abbrev pub shorts_of : List Position → List ℕ
+shorts_of positions = map (λ position. position.short) positions
 
 -- ---- steps on one position
+-- what a step leaves of a position, and its match
+abbrev pub PositionStep : Type 0
+PositionStep = Step Position
+
 -- all longs against all shorts
 unfoldable pub net_step : Position → PositionStep
 net_step a = record { left = net a; matched = matched a }

@@ -1,15 +1,15 @@
 -- `market_risk_charge` meets its contract: three lists written one after the other are the entries of the report.
-use mathlib.Core.Path.{◌≡◌, refl, sym, ap, ◌∙◌}
+use mathlib.Core.Path.{◌≡◌, refl, ap, ◌∙◌}
 use mathlib.Core.List.{List, [], ◌∷◌, ◌++◌, append_assoc}
 use Prim.Native.Nat.{ℕ}
 use native.Mathlib.Omega.{arith}
 use lib.ListN.{length, replicate, length-append}
 use Rattle.layout.specs.Written.{written}
-use Rattle.layout.proofs.Writing.{written-length, written-more, written-whole}
+use Rattle.layout.proofs.Writing.{written-more, written-whole}
 use Rattle.charges.specs.declared.Report.{Report}
 use Rattle.charges.proofs.Reporting.{ListsSized, lists_sized}
 use Rattle.market_risk.specs.Entries.{refusal_entries, report_figures, report_entries}
-use Rattle.market_risk.proofs.market_risk_charge.Goals.{After-charge-report}
+use Rattle.market_risk.proofs.market_risk_charge.Goals.{After-charge-report, After-write_entries}
 use Rattle.market_risk.proofs.market_risk_charge.Goals as goal
 
 -- the refusal, the figures and the rows taken
@@ -19,14 +19,6 @@ figures report = refusal_entries report.refusal ++ (report_figures report ++ (re
 -- the report that the library gave has its 32 entries in each list
 sized : (c : After-charge-report) → ListsSized c.charge-report.result
 sized c = rw c.charge-report.ensures (lists_sized _ _)
-
--- the output stays as long as it is
-first-sized : (report : Report) {out1 : List ℕ} → out1 ≡ written (replicate 75 0) 0 (figures report) → length out1 ≡ 75
-unfolding refusal_entries report_figures
-first-sized report e1 = ap length e1 ∙ written-length (replicate 75 0) (figures report) 0 (omega arith)
-
-second-sized : (report : Report) → ListsSized report → (out1 : List ℕ) {out2 : List ℕ} → length out1 ≡ 75 → out2 ≡ written out1 11 report.specifics → length out2 ≡ 75
-second-sized report many out1 whole e2 = ap length e2 ∙ written-length out1 report.specifics 11 (omega (arith, many.specifics_many)) ∙ whole
 
 entries_in_steps : (report : Report) → ListsSized report → {out1 out2 out3 : List ℕ} → out1 ≡ written (replicate 75 0) 0 (figures report)
     → out2 ≡ written out1 11 report.specifics → out3 ≡ written out2 43 report.generals → out3 ≡ report_entries report
@@ -41,27 +33,12 @@ entries_in_steps report many e1 e2 e3 =
     ∙ written-whole (replicate 75 0) (lists ++ report.generals) all
     ∙ append_assoc (figures report) report.specifics report.generals
 
-pub slice_bounds-write_entries-end-2 : goal.slice_bounds-write_entries-end-2
-slice_bounds-write_entries-end-2 c = sym (sized (goal.at.slice_bounds-write_entries-end-2 c).After-charge-report).specifics_many
-
-pub write_entries-requires-2 : goal.write_entries-requires-2
+-- the first entries, from the refusal on
+first : (c : After-write_entries) → c.write_entries.new.out ≡ written (replicate 75 0) 0 (figures c.charge-report.result)
 unfolding refusal_entries report_figures
-write_entries-requires-2 c =
-    (first-sized c.charge-report.result c.write_entries.ensures, omega (arith, (sized (goal.at.write_entries-requires-2 c).After-charge-report).specifics_many))
-
-pub slice_bounds-write_entries-end-3 : goal.slice_bounds-write_entries-end-3
-slice_bounds-write_entries-end-3 c = sym (sized (goal.at.slice_bounds-write_entries-end-3 c).After-charge-report).generals_many
-
-pub write_entries-requires-3 : goal.write_entries-requires-3
-unfolding refusal_entries report_figures
-write_entries-requires-3 c =
-    let report = c.charge-report.result in (
-      second-sized report (sized (goal.at.write_entries-requires-3 c).After-charge-report) _ (first-sized report c.write_entries.ensures) c.write_entries-2.ensures,
-      omega (arith, (sized (goal.at.write_entries-requires-3 c).After-charge-report).generals_many),
-    )
+first c = rw c.refusal_entries.ensures at c.write_entries.ensures
 
 pub returns : goal.returns
-unfolding refusal_entries report_figures
 returns c =
-    entries_in_steps c.charge-report.result (sized (goal.at.returns c).After-charge-report) c.write_entries.ensures c.write_entries-2.ensures c.write_entries-3.ensures
+    entries_in_steps c.charge-report.result (sized (goal.at.returns c).After-charge-report) (first (goal.at.returns c).After-write_entries) c.write_entries-2.ensures c.write_entries-3.ensures
     ∙ ap report_entries c.charge-report.ensures

@@ -1,8 +1,15 @@
--- `market_risk_commodity_ladder` meets its contract: the entries are those of the ladder.
-use mathlib.Core.Path.{ap}
+-- `market_risk_commodity_ladder` meets its contract: the entries of an answer are its figures, or its refusal and no figure.
+use mathlib.Core.Path.{ap, ◌∙◌}
+use Rattle.book.specs.Refusals.{refused}
+use Rattle.book.specs.Reasons.{told}
+use Rattle.charges.specs.Report.{figures_or, commodity_answer}
 use Rattle.market_risk.specs.Entries.{refusal_entries, commodity_entries}
 use Rattle.market_risk.proofs.market_risk_commodity_ladder.Goals as goal
 
-pub returns : goal.returns
-unfolding refusal_entries commodity_entries
-returns c = ap commodity_entries c.commodity_ladder-ladder.ensures
+pub returns-in-Ok : goal.returns-in-Ok
+unfolding told refused commodity_answer figures_or refusal_entries commodity_entries
+returns-in-Ok c = ap commodity_entries c.in-Ok.ensures
+
+pub returns-in-Err : goal.returns-in-Err
+unfolding told refused commodity_answer figures_or refusal_entries commodity_entries
+returns-in-Err c = c.refused_entries.ensures ∙ ap commodity_entries c.in-Err.ensures

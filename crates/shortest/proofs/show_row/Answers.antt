@@ -9,7 +9,7 @@ use Rattle.book.specs.Rows.{decode}
 use Rattle.book.specs.Refusals.{refusal_of}
 use Rattle.book.proofs.Walking.{bytes_at}
 use Rattle.book.proofs.Faults.{of_row}
-use Rattle.shortest.specs.Shortest.{shortest_file}
+use Rattle.shortest.specs.Shortest.{shortest_file, shortest_answer}
 use Rattle.shortest.specs.Inner.Places.{RowIn}
 use Rattle.shortest.proofs.Outcome.{file_row, row_within, row_size_lem, not_accepted, has-contents, both_written, kept, wrote}
 use Rattle.shortest.proofs.show_row.Goals.{Start}
@@ -19,7 +19,8 @@ pub returns-then-out : goal.returns-then-out
 returns-then-out c =
     let s = c.args.book.now in
     let many = c.requires.0 in
-    kept s c.args.out.now (shortest_file s) refl (contents_size + row_size) (row_size_lem s many) (not_accepted s (omega arith)) (omega arith) c.answer.ensures
+    let both = kept s c.args.out.now (shortest_file s) refl (contents_size + row_size) (row_size_lem s many) (not_accepted s (omega arith)) (omega arith) c.from.ensures in
+    record { answer = both.0; output = both.1 }
 
 pub counts-counts-requires : goal.counts-counts-requires
 counts-counts-requires c = has-contents c.args.book.now (omega (arith, c.requires.0))
@@ -49,6 +50,7 @@ pub row_from-leg-requires : goal.row_from-leg-requires
 row_from-leg-requires c = (row_lies (goal.at.row_from-leg-requires c).Start).0
 
 pub returns : goal.returns
+unfolding shortest_answer
 returns c =
     let s = c.args.book.now in
     let out = c.args.out.now in
@@ -57,6 +59,5 @@ returns c =
     rw (← c.requires.1, ← c.counts-counts.ensures) c.class_of-class.ensures in
     let row = c.row_from-leg.ensures ∙ ap (λ (n : ℕ). decode (bytes_at s n)) c.requires.1 in
     let writes = both_written out (omega arith) c.one_in.ensures row c.write_contents.ensures c.write_row.ensures in
-    wrote s out _ (file_row s many _ there) (contents_size + row_size) (sym (ap length (file_row s many _ there)) ∙ row_size_lem s many) _ (not_accepted s (omega arith)) (omega arith)
-    c.answer-2.ensures
-    writes
+    let both = wrote s out _ (file_row s many _ there) (contents_size + row_size) (sym (ap length (file_row s many _ there)) ∙ row_size_lem s many) _ (not_accepted s (omega arith)) (omega arith) writes in
+    record { answer = both.0; output = both.1 }

@@ -1,9 +1,10 @@
--- Where a row of the file stands, the contents of a book of one row, and an answer by its parts.
-use Rattle.std.specs.Prelude.{ℕ, ◌+◌, ◌≤◌, ◌<◌, Bool, cond, eqb}
+-- Where a row of the file stands, the contents of a book of one row, and an answer of a book that is
+-- not accepted.
+use Rattle.std.specs.Prelude.{ℕ, ◌+◌, ◌≤◌, ◌<◌, cond, eqb, Some, Result, Ok, Err}
 use Rattle.book.specs.declared.Counts.{Counts}
 use Rattle.book.specs.Counts.{rows_before}
-use Rattle.book.specs.Refusals.{refused}
-use Rattle.shortest.specs.Shortest.{Shown}
+use Rattle.book.specs.declared.reasons.Refused.{Refused}
+use Rattle.shortest.specs.Shortest.{Shown, shortest_answer}
 
 -- a row of a number is one of a class
 pub record RowIn (counts : Counts) (row class : ℕ) : Type 0 where
@@ -22,6 +23,7 @@ one_in class =
       commodity = cond (eqb class 4) 1 0;
     }
 
--- an answer from its parts
-unfoldable pub answer_of : (number length : ℕ) → Bool → Shown
-answer_of number length accepted = record { refusal = refused number 0; length = length; accepted = accepted }
+-- what the answer tells of a book that is not accepted
+abbrev pub file_answer : Result ℕ Refused → Shown
+file_answer (Ok length) = shortest_answer (Ok (Some length))
+file_answer (Err r) = shortest_answer (Err r)

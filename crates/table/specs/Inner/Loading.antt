@@ -3,7 +3,11 @@ use Rattle.std.specs.Prelude.{cond, List, ℕ, eqb, length, replicate}
 use Rattle.ladder.specs.declared.Percents.{Percents}
 use Rattle.ladder.specs.declared.Table.{Table}
 use Rattle.table.specs.Loaded.{table_size, table_bands, table_of, table_refusal}
-pub use Rattle.table.specs.declared.Loaded.{Loaded}
+
+-- why a table is refused, 0 where it is not, and what it holds
+pub record Loaded : Type 0 where
+  pub number : ℕ
+  pub table : Table
 
 abbrev pub no_percents : Percents
 no_percents = record { vertical = 0; zone1 = 0; zone2 = 0; zone3 = 0; adjacent = 0; apart = 0 }

@@ -13,4 +13,4 @@ left_rows-requires c =
 pub returns : goal.returns
 returns c =
     c.left_rows.ensures
-    ∙ ap₂ (left_rows (positions_in c.args.longs.now c.args.shorts.now)) c.rows_before.ensures.0 c.class_rows.ensures
+    ∙ ap₂ (left_rows (positions_in c.args.amounts.now)) c.rows_before.ensures.0 c.class_rows.ensures

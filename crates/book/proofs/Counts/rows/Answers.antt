@@ -1,8 +1,7 @@
--- `book::Counts::rows` meets its contract: four counts of 16 bits are added.
+-- `book::Counts::rows` meets its contract: the rows before a fifth class are all rows.
 use native.Mathlib.Omega.{arith}
-use Rattle.book.specs.Counts.{count_of_rows}
+use Rattle.book.proofs.Placing.{before-all}
 use Rattle.book.proofs.Counts.rows.Goals as goal
 
 pub returns : goal.returns
-unfolding count_of_rows
-returns c = omega arith
+returns c = omega (arith, c.rows_before.ensures, before-all c.args.self 5 (omega arith))

@@ -1,5 +1,5 @@
 -- `book::rows::row_at` meets its contract: a row of the part, or zeros past the last.
-use mathlib.Core.Path.{sym, ap, ◌∙◌}
+use mathlib.Core.Path.{◌≡◌, sym, ap, ◌∙◌}
 use mathlib.Core.List.{[]}
 use Prim.Native.Nat.{◌≤◌}
 use native.Mathlib.Omega.{arith}
@@ -19,4 +19,15 @@ pub returns-else-i-part : goal.returns-else-i-part
 unfolding row_of decode u16_at u32_at
 returns-else-i-part c =
     let past : length (rows_in c.args.part.now) ≤ c.args.i = omega (arith, row_count c.args.part.now) in
-    rw (get_or-eq_default (rows_in c.args.part.now) [] past)
+    let fields = c.default.ensures in
+    let none : c.default.result ≡ decode [] =
+    λ i. record {
+      group = fields.0 i;
+      kind = fields.1.0 i;
+      days = fields.1.1.0 i;
+      coupon = fields.1.1.1.0 i;
+      issue = fields.1.1.1.1.0 i;
+      long = fields.1.1.1.1.1.0 i;
+      short = fields.1.1.1.1.1.1 i;
+    } in
+    none ∙ sym (ap decode (get_or-eq_default (rows_in c.args.part.now) [] past))

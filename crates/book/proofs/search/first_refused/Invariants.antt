@@ -10,8 +10,8 @@ invariant-loop-row l = InClass l.book l.class l.end l.row × Passed (legs_of l.b
 abbrev pub decreases-loop-row : goal.decreases-loop-row
 decreases-loop-row l = l.end - l.row
 
-abbrev pub invariant-search : goal.invariant-search
-invariant-search l = AtClass l.book l.class l.row × Passed (legs_of l.book) l.row
+abbrev pub invariant-loop-class : goal.invariant-loop-class
+invariant-loop-class l = AtClass l.book l.class l.first × Passed (legs_of l.book) l.first
 
-abbrev pub decreases-search : goal.decreases-search
-decreases-search l = 5 - l.class
+abbrev pub decreases-loop-class : goal.decreases-loop-class
+decreases-loop-class l = 5 - l.class

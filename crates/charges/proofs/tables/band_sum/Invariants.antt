@@ -1,12 +1,9 @@
--- `charges::tables::band_sum` meets its contract: the loop keeps the sum of the bands so far.
-use Prim.Native.Nat.{◌+◌, ◌-◌}
-use lib.ListN.{get_or}
-use Rattle.sums.proofs.Spans.{Summed}
-use Rattle.ladder.specs.Commodity.{commodity_band_count}
+-- `charges::tables::band_sum` meets its contract: the loop keeps what the bands before come to.
+use mathlib.Core.Path.{◌≡◌}
+use Rattle.sums.specs.Sums.{span}
+use Rattle.ladder.specs.Position.{total}
+use Rattle.charges.specs.Inner.Tables.{bands_from}
 use Rattle.charges.proofs.tables.band_sum.Given as goal
 
-abbrev pub invariant-loop-k : goal.invariant-loop-k
-invariant-loop-k l = Summed (λ j. get_or l.table (l.first + j) 0) commodity_band_count l.sum l.k
-
-abbrev pub decreases-loop-k : goal.decreases-loop-k
-decreases-loop-k l = commodity_band_count - l.k
+abbrev pub invariant-loop-position : goal.invariant-loop-position
+invariant-loop-position l = l.sum ≡ total (bands_from l.positions l.first) (span 0 l.position-index)

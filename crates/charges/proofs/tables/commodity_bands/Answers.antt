@@ -1,14 +1,9 @@
--- `charges::tables::commodity_bands` meets its contract: the array is filled band by band.
-use mathlib.Core.Path.{refl}
-use native.Mathlib.Omega.{arith}
-use Rattle.sums.proofs.Filling.{filled_none, filled_next, filled_all}
+-- `charges::tables::commodity_bands` meets its contract: each entry is read from its slot.
+use borrow.Author.Rules.{rules}
+use Rattle.ladder.specs.Position.{empty}
+use Rattle.ladder.specs.Commodity.{commodity_band_count}
+use Rattle.charges.proofs.Made.{made}
 use Rattle.charges.proofs.tables.commodity_bands.Goals as goal
 
-pub loop-k-init : goal.loop-k-init
-loop-k-init c = filled_none _ _ _ refl
-
-pub loop-k-preserved : goal.loop-k-preserved
-loop-k-preserved c = filled_next _ _ _ _ _ c.loop-k.invariant (omega arith) refl
-
 pub returns : goal.returns
-returns c = filled_all _ _ _ _ c.loop-k.invariant c.loop-k-test.false
+returns c = made _ _ _ empty (λ i y f' call. search rules) commodity_band_count c.from_fn.ensures.items

@@ -1,17 +1,11 @@
--- `charges::tables::group_list` meets its contract: the array is filled group by group.
-use mathlib.Core.Path.{refl}
-use native.Mathlib.Omega.{arith}
-use Rattle.sums.proofs.Filling.{filled_none, filled_next, filled_all, listed_array}
+-- `charges::tables::group_list` meets its contract: each entry is read from its slot.
+use borrow.Author.Rules.{rules}
+use Rattle.sums.proofs.Filling.{listed_array}
 use Rattle.charges.specs.Inner.Slots.{group_count}
+use Rattle.charges.proofs.Made.{made}
 use Rattle.charges.proofs.tables.group_list.Goals as goal
-
-pub loop-group-init : goal.loop-group-init
-loop-group-init c = filled_none _ _ _ refl
-
-pub loop-group-preserved : goal.loop-group-preserved
-loop-group-preserved c = filled_next _ _ _ _ _ c.loop-group.invariant (omega arith) refl
 
 pub returns : goal.returns
 returns c =
-    let filled = c.loop-group.invariant in
-    listed_array _ group_count _ filled.sized (filled_all _ _ _ _ filled c.loop-group-test.false)
+    listed_array _ group_count _ (search rules)
+    (record { below = made _ _ _ 0 (λ i y f' call. search rules) group_count c.from_fn.ensures.items })

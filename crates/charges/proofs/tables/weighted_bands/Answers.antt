@@ -1,17 +1,11 @@
--- `charges::tables::weighted_bands` meets its contract: the array is filled band by band, each sum times its weight.
-use mathlib.Core.Path.{refl}
-use native.Mathlib.Omega.{arith}
-use Rattle.sums.proofs.Filling.{filled_none, filled_next, filled_all}
+-- `charges::tables::weighted_bands` meets its contract: each entry is the position times its weight.
+use borrow.Author.Rules.{rules}
+use Rattle.ladder.specs.Position.{empty}
+use Rattle.ladder.specs.Table.{weight_in}
+use Rattle.ladder.specs.Inner.Steps.{band_count}
+use Rattle.charges.proofs.Made.{made}
 use Rattle.charges.proofs.tables.weighted_bands.Goals as goal
 
-pub loop-k-init : goal.loop-k-init
-loop-k-init c = filled_none _ _ _ refl
-
-pub overflow_mul-out : goal.overflow_mul-out
-overflow_mul-out c = omega (arith, c.requires.by_index c.loop-k.k (omega arith))
-
-pub loop-k-preserved : goal.loop-k-preserved
-loop-k-preserved c = filled_next _ _ _ _ _ c.loop-k.invariant (omega arith) refl
-
 pub returns : goal.returns
-returns c = filled_all _ _ _ _ c.loop-k.invariant c.loop-k-test.false
+unfolding weight_in
+returns c = made _ _ _ empty (λ i y f' call. search rules) band_count c.from_fn.ensures.items

@@ -1,19 +1,23 @@
--- `ladder::bands::zone_of` meets its contract: after n bands it has what the first n bands of the zone sum to.
-use native.Mathlib.Omega.{arith}
-use borrow.Author.Rules.{rules}
-use Rattle.ladder.proofs.Gathering.{gathered_none, gathered_room, gathered_next, gathered_all}
+-- `ladder::bands::zone_of` meets its contract: before a band it has what the bands of the zone up to it sum to.
+use Rattle.std.proofs.Common.{◌<◌, ap, refl, arith}
+use Rattle.ladder.specs.Position.{gross}
+use Rattle.ladder.proofs.Gathering.{part_is, gathered_room, gathered_next}
 use Rattle.ladder.proofs.bands.zone_of.Goals as goal
-
-pub loop-n-init : goal.loop-n-init
-loop-n-init c = (search rules, gathered_none _ _)
 
 pub with_band-zone-requires : goal.with_band-zone-requires
 with_band-zone-requires c =
-    let loop = c.loop-n in
-    (gathered_room loop.invariant.1 c.args.many (omega arith) c.requires.many_bound, loop.invariant.1.sums)
+    let within : c.loop-position.position-index < c.args.many = omega arith in
+    let own = part_is c.args.positions.now c.args.start c.args.many _ within in (
+      omega (
+        arith,
+        gathered_room c.loop-position.invariant c.args.many within c.requires.many_bound,
+        ap gross own,
+      ),
+      c.loop-position.invariant.sums,
+    )
 
-pub loop-n-preserved : goal.loop-n-preserved
-loop-n-preserved c = (search rules, gathered_next c.loop-n.invariant.1 c.with_band-zone.ensures)
-
-pub returns : goal.returns
-returns c = gathered_all c.loop-n.invariant.1 (omega arith)
+pub loop-position-preserved : goal.loop-position-preserved
+loop-position-preserved c =
+    let within : c.loop-position.position-index < c.args.many = omega arith in
+    gathered_next c.loop-position.invariant c.with_band-zone.ensures
+    (part_is c.args.positions.now c.args.start c.args.many _ within) refl (omega arith)

@@ -1,7 +1,5 @@
 -- `layout::contents::write_contents` meets its contract: the loop writes the counts one after the other.
--- Assumes nothing.
-use mathlib.Core.List.{List}
-use Prim.Native.Nat.{ℕ, ◌-◌}
+use Rattle.std.proofs.Common.{ℕ, ◌-◌, ◌*◌, List}
 use Rattle.book.specs.declared.Counts.{Counts}
 use Rattle.book.specs.Counts.{count_in}
 use Rattle.layout.specs.Files.{two_bytes_of}
@@ -12,7 +10,4 @@ unfoldable pub count_piece : Counts → ℕ → List ℕ
 count_piece counts class = two_bytes_of (count_in counts class)
 
 abbrev pub invariant-loop-class : goal.invariant-loop-class
-invariant-loop-class l = Writes (count_piece l.counts) l.initial.out 0 l.out l.at l.class
-
-abbrev pub decreases-loop-class : goal.decreases-loop-class
-decreases-loop-class l = 5 - l.class
+invariant-loop-class l = Writes (count_piece l.counts) l.initial.out 0 l.out (2 * (l.class - 1)) l.class

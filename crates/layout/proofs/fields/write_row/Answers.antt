@@ -1,12 +1,9 @@
 -- `layout::fields::write_row` meets its contract: six pieces written one after the other are the row's bytes.
-use mathlib.Core.Path.{◌≡◌, refl}
-use mathlib.Core.List.{List, [], ◌∷◌, ◌++◌}
-use Prim.Native.Nat.{ℕ, ◌+◌, ◌≤◌}
-use native.Mathlib.Omega.{arith}
-use lib.ListN.{length}
+use Rattle.std.proofs.Common.{◌≡◌, ℕ, ◌+◌, ◌≤◌, List, [], ◌∷◌, ◌++◌, length, refl, arith, rules}
 use Rattle.book.specs.declared.Row.{Row}
 use Rattle.layout.specs.Written.{written}
 use Rattle.layout.specs.Files.{two_bytes_of, four_bytes_of, row_bytes}
+use Rattle.layout.proofs.Bytes.{low_two, low_four}
 use Rattle.layout.proofs.Writing.{written-more}
 use Rattle.layout.proofs.fields.write_row.Goals as goal
 
@@ -29,6 +26,16 @@ row_in_steps row out at room e1 e2 e3 e4 e5 e6 =
 
 pub returns : goal.returns
 returns c =
-    row_in_steps c.args.row c.args.out.now c.args.at c.requires
-    c.write_pair.ensures c.write_u16.ensures c.write_u16-2.ensures c.write_u16-3.ensures
-    c.write_u32.ensures c.write_u32-2.ensures
+    let row = c.args.row in
+    let days = low_two row.days (search rules) c.to_le_bytes.ensures in
+    let coupon = low_two row.coupon (search rules) c.to_le_bytes-2.ensures in
+    let issue = low_two row.issue (search rules) c.to_le_bytes-3.ensures in
+    let long = low_four row.long (search rules) c.to_le_bytes-4.ensures in
+    let short = low_four row.short (search rules) c.to_le_bytes-5.ensures in
+    row_in_steps row c.args.out.now c.args.at c.requires
+    c.write_at.ensures
+    (rw days at c.write_at-2.ensures)
+    (rw coupon at c.write_at-3.ensures)
+    (rw issue at c.write_at-4.ensures)
+    (rw long at c.write_at-5.ensures)
+    (rw short at c.write_at-6.ensures)

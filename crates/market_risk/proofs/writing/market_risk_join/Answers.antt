@@ -1,10 +1,15 @@
--- `market_risk_join` meets its contract: the entries are those of the answer, and the output is join's.
-use mathlib.Core.Path.{ap}
+-- `market_risk_join` meets its contract: the entries of an answer are its figures, or its refusal and no figure.
+use mathlib.Core.Path.{ap, ◌∙◌}
+use Rattle.book.specs.Refusals.{refused}
+use Rattle.book.specs.Reasons.{told, figure_in}
+use Rattle.join.specs.Joined.{joined_answer}
 use Rattle.market_risk.specs.Entries.{refusal_entries, joined_entries}
 use Rattle.market_risk.proofs.writing.market_risk_join.Goals as goal
 
-pub returns : goal.returns
-unfolding refusal_entries joined_entries
-returns c =
-    let answer = c.join-joined.ensures in
-    record { out_after = answer.1; res_after = ap joined_entries answer.0 }
+pub returns-in-Ok-clause-res_after : goal.returns-in-Ok-clause-res_after
+unfolding told refused joined_answer figure_in refusal_entries joined_entries
+returns-in-Ok-clause-res_after c = ap joined_entries c.in-Ok.ensures.answer
+
+pub returns-in-Err-clause-res_after : goal.returns-in-Err-clause-res_after
+unfolding told refused joined_answer figure_in refusal_entries joined_entries
+returns-in-Err-clause-res_after c = c.refused_entries.ensures ∙ ap joined_entries c.in-Err.ensures.answer

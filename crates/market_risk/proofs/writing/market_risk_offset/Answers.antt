@@ -1,10 +1,14 @@
--- `market_risk_offset` meets its contract: the entries are those of the answer, and the output is offsetting's.
-use mathlib.Core.Path.{ap}
+-- `market_risk_offset` meets its contract: the entries of an answer are its figures, or its refusal and no figure.
+use mathlib.Core.Path.{ap, ◌∙◌}
+use Rattle.book.specs.Refusals.{refused}
+use Rattle.book.specs.Reasons.{told, figure_in}
 use Rattle.market_risk.specs.Entries.{refusal_entries, written_entries}
 use Rattle.market_risk.proofs.writing.market_risk_offset.Goals as goal
 
-pub returns : goal.returns
-unfolding refusal_entries written_entries
-returns c =
-    let answer = c.offset-left.ensures in
-    record { out_after = answer.1; res_after = ap written_entries answer.0 }
+pub returns-in-Ok-clause-res_after : goal.returns-in-Ok-clause-res_after
+unfolding told refused figure_in refusal_entries written_entries
+returns-in-Ok-clause-res_after c = ap written_entries c.in-Ok.ensures.answer
+
+pub returns-in-Err-clause-res_after : goal.returns-in-Err-clause-res_after
+unfolding told refused figure_in refusal_entries written_entries
+returns-in-Err-clause-res_after c = c.refused_entries.ensures ∙ ap written_entries c.in-Err.ensures.answer

@@ -1,14 +1,18 @@
--- `market_risk_shortest` meets its contract: the entries are those of the answer, and the output is the call's.
+-- `market_risk_shortest` meets its contract: the entries of an answer are its figures, or its refusal and no figure.
 use mathlib.Core.Path.{ap, ◌∙◌}
-use mathlib.Core.List.{List, [], ◌∷◌, ◌++◌}
-use Prim.Native.Nat.{ℕ}
-use Rattle.sums.proofs.Cases.{as_number}
+use Rattle.book.specs.Refusals.{refused}
+use Rattle.shortest.specs.Shortest.{shortest_answer}
 use Rattle.market_risk.specs.Entries.{refusal_entries, shown_entries}
 use Rattle.market_risk.proofs.writing.market_risk_shortest.Goals as goal
 
-pub returns : goal.returns
-unfolding shown_entries
-returns c =
-    let call = c.shortest-shown in
-    let entries : ℕ → List ℕ = λ mark. refusal_entries call.result.refusal ++ (call.result.length ∷ mark ∷ []) in
-    record { out_after = call.ensures.1; res_after = c.entries.ensures ∙ ap entries (as_number call.result.accepted) ∙ ap shown_entries call.ensures.0 }
+pub returns-in-Ok-Some-clause-res_after : goal.returns-in-Ok-Some-clause-res_after
+unfolding refused shortest_answer refusal_entries shown_entries
+returns-in-Ok-Some-clause-res_after c = ap shown_entries (rw c.in-Ok-Some.field-0-is at c.in-Ok-Some.ensures.answer)
+
+pub returns-in-Ok-None-clause-res_after : goal.returns-in-Ok-None-clause-res_after
+unfolding refused shortest_answer refusal_entries shown_entries
+returns-in-Ok-None-clause-res_after c = ap shown_entries (rw c.in-Ok-None.field-0-is at c.in-Ok-None.ensures.answer)
+
+pub returns-in-Err-clause-res_after : goal.returns-in-Err-clause-res_after
+unfolding refused shortest_answer refusal_entries shown_entries
+returns-in-Err-clause-res_after c = c.refused_entries.ensures ∙ ap shown_entries c.in-Err.ensures.answer

@@ -1,40 +1,49 @@
 -- `netting::firsts::find` meets its contract: no issue before the place is the one that is looked for.
 use mathlib.Core.Path.{◌≡◌, sym, ◌∙◌}
-use Prim.Native.Nat.{◌<◌}
+use mathlib.Core.List.{List}
+use Prim.Native.Nat.{ℕ, ◌+◌, ◌<◌}
 use native.Mathlib.Omega.{arith}
 use borrow.Author.Tests.{eq-eqb, ne_eqb}
-use lib.ListN.{length, take}
-use lib.Seq.{get_or-take, length-take-le}
+use lib.Dec.{eqb}
+use lib.ListN.{length, get_or, length-map, get_or-map}
+use Rattle.netting.specs.declared.firsts.First.{First}
+use Rattle.netting.specs.Inner.Places.{place_of, issues_in}
 use Rattle.netting.proofs.Standing.{compared_found, compared_past}
-use Rattle.netting.proofs.Places.{searched_none, searched_next, searched_here, searched_all}
+use Rattle.netting.proofs.Places.{Searched, searched_next, searched_here, searched_all}
 use Rattle.netting.proofs.firsts.find.Goals as goal
 
-pub loop-at-init : goal.loop-at-init
-loop-at-init c = (omega arith, omega arith, searched_none _ _)
+module _ (issue : ℕ) (kept : List First) where
+  abbrev issues : List ℕ
+  issues = issues_in kept
 
-pub returns-then-issues-at : goal.returns-then-issues-at
-returns-then-issues-at c =
-    let at = c.loop-at.at in
-    let kept = c.args.kept in
-    let issues = c.args.issues.now in
-    let inside : at < length (take kept issues) = rw (length-take-le kept issues (omega arith)) (omega arith) in
-    let here = searched_here _ (take kept issues) at 0 inside c.loop-at.invariant.2 (eq-eqb _ _ (get_or-take kept issues at 0 (omega arith) ∙ c.if-issues-at.true)) in
-    (sym here, omega (arith, compared_found c.args.issue (take kept issues) (omega arith), c.loop-at.invariant.1))
+  size : length issues ≡ length kept
+  size = length-map kept (λ first. first.issue)
+
+  module _ {at : ℕ} (passed : Searched (λ other. eqb other issue) issues at) (inside : at < length kept) (d : First) where
+    here : (get_or kept at d).issue ≡ issue → at ≡ place_of issue issues
+    here same = sym (searched_here _ issues at d.issue (omega (arith, size)) passed (eq-eqb _ _ (get_or-map (λ (first : First). first.issue) kept at d ∙ same)))
+
+    next : ((get_or kept at d).issue ≡ issue → ⊥) → Searched (λ other. eqb other issue) issues (at + 1)
+    next other = searched_next _ issues at d.issue (omega (arith, size)) passed (ne_eqb _ _ (λ e. other (sym (get_or-map (λ (first : First). first.issue) kept at d) ∙ e)))
+
+  past : {at : ℕ} → Searched (λ other. eqb other issue) issues at → at ≡ length kept → place_of issue issues ≡ length issues
+  past passed all = searched_all _ issues _ (omega (arith, size)) passed ∙ all ∙ sym size
+
+pub returns-then-first-issue-clause-at : goal.returns-then-first-issue-clause-at
+returns-then-first-issue-clause-at c = (here _ _ c.loop-at.invariant.1 (omega arith) _ c.if-first-issue.true, omega (arith, size c.args.issue c.args.kept.now))
+
+pub returns-then-first-issue-clause-compared : goal.returns-then-first-issue-clause-compared
+returns-then-first-issue-clause-compared c =
+    let at = here _ _ c.loop-at.invariant.1 (omega arith) _ c.if-first-issue.true in
+    omega (arith, at, compared_found c.args.issue (issues c.args.issue c.args.kept.now) (omega (arith, at, size c.args.issue c.args.kept.now)))
 
 pub loop-at-preserved : goal.loop-at-preserved
-loop-at-preserved c =
-    let at = c.loop-at.at in
-    let kept = c.args.kept in
-    let issues = c.args.issues.now in
-    let inside : at < length (take kept issues) = rw (length-take-le kept issues (omega arith)) (omega arith) in
-    let other = ne_eqb _ _ (λ e. c.if-issues-at.false (sym (get_or-take kept issues at 0 (omega arith)) ∙ e)) in
-    (omega arith, omega (arith, c.loop-at.invariant.1), searched_next _ (take kept issues) at 0 inside c.loop-at.invariant.2 other)
+loop-at-preserved c = (omega arith, next _ _ c.loop-at.invariant.1 (omega arith) _ c.if-first-issue.false)
 
-pub returns : goal.returns
-returns c =
-    let kept = c.args.kept in
-    let issues = c.args.issues.now in
-    let all : length (take kept issues) ≡ kept = length-take-le kept issues (omega arith) in
-    let here : c.loop-at.at ≡ kept = omega arith in
-    let past = searched_all _ (take kept issues) c.loop-at.at (omega arith) c.loop-at.invariant.2 ∙ here in
-    (sym past, omega (arith, compared_past c.args.issue (take kept issues) (omega arith), c.loop-at.invariant.1))
+pub returns-clause-at : goal.returns-clause-at
+returns-clause-at c = past _ _ c.loop-at.invariant.1 (omega arith)
+
+pub returns-clause-compared : goal.returns-clause-compared
+returns-clause-compared c =
+    let place = past _ _ c.loop-at.invariant.1 (omega arith) in
+    omega (arith, compared_past c.args.issue (issues c.args.issue c.args.kept.now) place, size c.args.issue c.args.kept.now)

@@ -1,12 +1,8 @@
 -- `netting::nets::first_over` meets its contract: no row before is over the limit.
-use Prim.Native.Nat.{◌-◌}
 use Rattle.amounts.specs.Inner.Standing.{positions_in}
 use Rattle.netting.specs.Inner.Nets.{is_over}
 use Rattle.netting.proofs.Numbers.{Unfound}
 use Rattle.netting.proofs.nets.first_over.Given as goal
 
 abbrev pub invariant-loop-row : goal.invariant-loop-row
-invariant-loop-row l = Unfound 14 (λ k. is_over (positions_in l.longs l.shorts k)) l.rows l.row
-
-abbrev pub decreases-loop-row : goal.decreases-loop-row
-decreases-loop-row l = l.rows - l.row
+invariant-loop-row l = Unfound 14 (λ k. is_over (positions_in l.amounts k)) l.rows l.row

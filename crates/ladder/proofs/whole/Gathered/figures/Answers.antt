@@ -1,5 +1,5 @@
 -- `ladder::whole::Gathered::figures` meets its contract: what the zones match is within their gross.
-use native.Mathlib.Omega.{arith}
+use Rattle.std.proofs.Common.{arith}
 use Rattle.ladder.proofs.Gathering.{combined-within, figures_in_steps}
 use Rattle.ladder.proofs.whole.Gathered.figures.Goals as goal
 

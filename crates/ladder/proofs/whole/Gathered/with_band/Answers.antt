@@ -8,5 +8,5 @@ returns-then-band-lt4 c = with_first _ _ _ c.requires c.if-band-lt4.true c.with_
 pub returns-then-band-lt7 : goal.returns-then-band-lt7
 returns-then-band-lt7 c = with_second _ _ _ c.requires c.if-band-lt4.false c.if-band-lt7.true c.with_band-then-band-lt7.ensures
 
-pub returns : goal.returns
-returns c = with_third _ _ _ c.requires c.if-band-lt4.false c.if-band-lt7.false c.with_band-2.ensures
+pub returns-else-band-lt7 : goal.returns-else-band-lt7
+returns-else-band-lt7 c = with_third _ _ _ c.requires c.if-band-lt4.false c.if-band-lt7.false c.with_band-else-band-lt7.ensures

@@ -12,24 +12,24 @@ use Rattle.trade.proofs.search.Open.charge.Goals.{Start}
 use Rattle.trade.proofs.search.Open.charge.Goals as goal
 
 weighted≤ : (c : Start) → c.args.self.weight * c.args.amount ≤ c.args.self.weight * most_trade
-weighted≤ c = mul-le-mul_left c.args.self.weight c.requires.1
+weighted≤ c = mul-le-mul_left c.args.self.weight c.requires
 
 pub overflow_mul-self : goal.overflow_mul-self
 overflow_mul-self c =
     let within = weighted≤ (goal.at.overflow_mul-self c).Start in
-    let room = c.requires.0.room in
+    let room = c.args.self.searchable.room in
     search rules
 
-pub with_amount-position-requires : goal.with_amount-position-requires
-with_amount-position-requires c = omega (arith, weighted≤ (goal.at.with_amount-position-requires c).Start, c.requires.0.room)
+pub added-position-requires : goal.added-position-requires
+added-position-requires c = omega (arith, weighted≤ (goal.at.added-position-requires c).Start, c.args.self.searchable.room)
 
-pub with_band-requires : goal.with_band-requires
-with_band-requires c =
-    record { summed = c.requires.0.summed; room = omega (arith, weighted≤ (goal.at.with_band-requires c).Start, c.requires.0.room, c.with_amount-position.ensures.1) }
+pub with_band-zones-requires : goal.with_band-zones-requires
+with_band-zones-requires c =
+    record { summed = c.args.self.searchable.summed; room = omega (arith, weighted≤ (goal.at.with_band-zones-requires c).Start, c.args.self.searchable.room, c.added-position.ensures.gross) }
 
 pub returns : goal.returns
 unfolding open_charge
 returns c =
     let self = c.args.self in
-    let zones = c.with_band.ensures.0 ∙ ap (gathered_with self.zones self.band) c.with_amount-position.ensures.0 in
+    let zones = c.with_band-zones.ensures.0 ∙ ap (gathered_with self.zones self.band) c.added-position.ensures.is in
     ap (λ (figures : InterestFigures). figures.charge) (c.figures.ensures ∙ ap (gathered_figures self.percents) zones)

@@ -1,8 +1,0 @@
--- `options::greeks::gammas` meets its contract: one charge for each class.
-use mathlib.Core.List.{[], ◌∷◌}
-use Rattle.options.specs.Inner.Answers.{each_class}
-use Rattle.options.proofs.greeks.gammas.Goals as goal
-
-pub returns : goal.returns
-unfolding each_class
-returns c = λ i. c.gamma_charge.ensures i ∷ c.gamma_charge-2.ensures i ∷ c.gamma_charge-3.ensures i ∷ []
