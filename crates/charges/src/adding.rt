@@ -12,8 +12,8 @@ use book::Row;
 use ladder::positions::Position;
 use ladder::{BANDS, COMMODITY_BANDS};
 
-// The positions of rows by slot, and by class and group the specific charges and, where the class has
-// ladders, how many rows there are.
+// The positions of rows by slot, and by class and group the specific charges and, where the class
+// has ladders, how many rows there are. Two lists and no pairs: the report's is read out of one.
 #[derive(Clone, Copy)]
 pub struct Sums {
     pub positions: [Position; SLOTS],
@@ -32,6 +32,7 @@ pub fn with_row(position: Position, row: Row) -> Position
     }
 }
 
+// `Room` is asked of each method and is no ghost field: it holds before a row and not after the last.
 impl Sums {
     // The sums of no rows.
     pub fn clear() -> Sums
@@ -53,7 +54,8 @@ impl Sums {
         self.positions[at] = with_row(self.positions[at], row);
     }
 
-    // Each class adds to tables of its own: one function for all four would switch on the class.
+    // Each class has slots of its own: one function for all four would match on the class at every
+    // step.
 
     // An interest row: its amounts at its currency's band, its specific charge, and one row more of
     // the currency.

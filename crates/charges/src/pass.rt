@@ -57,7 +57,7 @@ pub fn take_rows(book: &[u8], counts: Counts, sums: &mut Sums) -> Result<usize, 
 }
 
 // Refuses a row of a class, or adds it to the sums.
-// The class is a number, as the file and the definitions have it.
+// The class is a number, as the definitions have it.
 #[inline(always)]
 #[tactic(auto, using(crate::proofs::Progress::took_one), unfolding(book::specs::Reasons::number_in))]
 fn take_row(class: usize, row: Row, sums: &mut Sums) -> Result<(), Reason>

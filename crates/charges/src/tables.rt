@@ -24,7 +24,7 @@ pub struct Used {
 
 // A position times its weight.
 fn weighted(weight: u64, position: Position) -> Position
-    requires { gross (weighted weight position) ≤ limit }
+    requires { ((weighted weight position).long ≤ limit) × ((weighted weight position).short ≤ limit) }
     ensures { result ≡ weighted weight position }
 {
     Position {
@@ -37,7 +37,7 @@ fn weighted(weight: u64, position: Position) -> Position
 #[tactic(auto, unfolding(ladder::specs::Table::weight_in))]
 pub fn weighted_bands(positions: &[Position], first: usize, table: &Table) -> [Position; BANDS]
     requires band_count_in_bounds { first + band_count ≤ length positions.now }
-    requires by_index { (k : ℕ) → k < band_count → gross (weighted_from table.now positions.now first k) ≤ limit }
+    requires by_index { (k : ℕ) → k < band_count → ((weighted_from table.now positions.now first k).long ≤ limit) × ((weighted_from table.now positions.now first k).short ≤ limit) }
     ensures { (k : ℕ) → k < band_count → bands_of result k ≡ weighted_from table.now positions.now first k }
 {
     array::from_fn(|k| weighted(table.weights[k], positions[first + k]))
@@ -60,7 +60,7 @@ fn total(list: &[u64]) -> u64
 
 // What a commodity's bands come to, from a slot on.
 fn band_sum(positions: &[Position], first: usize) -> Position
-    requires { (first + commodity_band_count ≤ length positions.now) × (gross_from commodity_band_count positions.now first ≤ most_gross) }
+    requires { (first + commodity_band_count ≤ length positions.now) × (gross_from commodity_band_count positions.now first ≤ limit) }
     ensures { result ≡ band_sum positions.now first }
 {
     let mut sum = Position::default();
@@ -72,7 +72,7 @@ fn band_sum(positions: &[Position], first: usize) -> Position
 
 // The positions of all commodities, whatever their bands.
 pub fn commodity_sums(positions: &[Position; SLOTS]) -> [Position; GROUPS]
-    requires { (length positions.now ≡ slot_count) × ((group : ℕ) → group < group_count → gross (commodity_groups positions.now group) ≤ most_gross) }
+    requires { (length positions.now ≡ slot_count) × ((group : ℕ) → group < group_count → ((commodity_groups positions.now group).long ≤ most_gross) × ((commodity_groups positions.now group).short ≤ most_gross)) }
     ensures { (group : ℕ) → group < group_count → bands_of result group ≡ commodity_groups positions.now group }
 {
     array::from_fn(|group| band_sum(positions, COMMODITY + COMMODITY_BANDS * group))

@@ -11,11 +11,8 @@ pub commodity_sums-requires : goal.commodity_sums-requires
 commodity_sums-requires c = (
   c.requires.positions_len,
   λ g h.
-      omega (
-        arith,
-        c.requires.groups_bound,
-        band_within (commodity_groups c.args.sums.now.positions) g group_count h,
-      ),
+      let within = band_within (commodity_groups c.args.sums.now.positions) g group_count h in
+      (omega (arith, c.requires.groups_bound, within), omega (arith, c.requires.groups_bound, within)),
 )
 
 pub simplified-requires-clause-many_bound : goal.simplified-requires-clause-many_bound

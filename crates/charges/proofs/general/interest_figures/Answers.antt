@@ -27,11 +27,9 @@ weighted_fits start =
 
 pub weighted_bands-weighted-requires-clause-by_index : goal.weighted_bands-weighted-requires-clause-by_index
 weighted_bands-weighted-requires-clause-by_index c k h =
-    omega (
-      arith,
-      weighted_fits (goal.at.weighted_bands-weighted-requires-clause-by_index c).Start,
-      band_within (weighted_from c.args.table.now c.args.positions.now c.args.first) k band_count h,
-    )
+    let fits = weighted_fits (goal.at.weighted_bands-weighted-requires-clause-by_index c).Start in
+    let within = band_within (weighted_from c.args.table.now c.args.positions.now c.args.first) k band_count h in
+    (omega (arith, fits, within), omega (arith, fits, within))
 
 pub interest-requires : goal.interest-requires
 unfolding span

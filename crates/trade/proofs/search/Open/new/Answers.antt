@@ -9,7 +9,10 @@ use Rattle.trade.proofs.search.Open.new.Goals as goal
 
 pub weighted_bands-others-requires : goal.weighted_bands-others-requires
 weighted_bands-others-requires c =
-    record { band_count_in_bounds = omega (arith, c.requires.sized); by_index = λ k h. each_fits _ _ _ c.requires k h }
+    record {
+      band_count_in_bounds = omega (arith, c.requires.sized);
+      by_index = λ k h. let fits = each_fits _ _ _ c.requires k h in (omega (arith, fits), omega (arith, fits));
+    }
 
 -- what the open band is left with
 none : (c : After-default) → c.default.result ≡ empty
