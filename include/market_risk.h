@@ -42,7 +42,7 @@
  *     market_risk_table              100
  *     market_risk_charge           17000
  *     market_risk_interest_ladder   1600
- *     market_risk_commodity_ladder  1100
+ *     market_risk_commodity_ladder   500
  *     market_risk_small_bank       15000
  *     market_risk_join               500
  *     market_risk_net              81000
@@ -50,8 +50,8 @@
  *     market_risk_net_and_offset   82000
  *     market_risk_shortest           300
  *     market_risk_dearest            100
- *     market_risk_options          17200
- *     market_risk_least_trade       2000
+ *     market_risk_options          17000
+ *     market_risk_least_trade       1300
  *
  * The charge, the small bank, netting, offsetting and options call memset or memcpy. Where the
  * loader binds these at their first call, that takes some 3000 bytes more, once.

@@ -11,6 +11,7 @@ use Rattle.book.specs.Counts.{contents_size, row_size, classes, counts_of, rows_
 use Rattle.book.specs.declared.Row.{Row}
 use Rattle.book.specs.Legs.{legs_of, of_class}
 use Rattle.book.specs.Accepted.{Accepted}
+use Rattle.book.specs.declared.Refusal.{Refusal}
 use Rattle.book.proofs.ClassRows.{class_size}
 use Rattle.ladder.specs.Position.{Bands}
 use Rattle.layout.specs.Written.{written}
@@ -77,7 +78,13 @@ module _ {s : List ℕ} {rows : ℕ → List Row} {amounts : Amounts} (now : Sta
       → done ≡ written_of (room_refusal (length (book_by rows)) (length out)) (book_by rows)
   stands_written out is = rw stands_book at is
 
-  pub stands_output : (out : List ℕ) {after : List ℕ}
+  pub stands_output : (refusal : Refusal) (out : List ℕ) {after : List ℕ}
+      → after ≡ output_of refusal (standing_book (positions_in amounts) s) out
+      → after ≡ output_of refusal (book_by rows) out
+  stands_output refusal out is = rw stands_book at is
+
+  -- and where the only refusal is that of the room
+  pub stands_output_by_room : (out : List ℕ) {after : List ℕ}
       → after ≡ standing_output (positions_in amounts) s out
       → after ≡ output_of (room_refusal (length (book_by rows)) (length out)) (book_by rows) out
-  stands_output out is = rw stands_book at is
+  stands_output_by_room out is = rw stands_book at is

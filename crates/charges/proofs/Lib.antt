@@ -4,6 +4,7 @@ pub mod Columns
 pub mod Legs
 pub mod Made
 pub mod Listing
+pub mod Counted
 pub mod Places
 pub mod Progress
 pub mod Sorting

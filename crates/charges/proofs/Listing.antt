@@ -85,7 +85,7 @@ every_in {P} start (suc many) every k low high =
     go (yes own) here rest = rw own here
     go (no other) here rest = rest (omega arith)
 
-span_below : (start many : ℕ) → Every (λ g. g < start + many) (span start many)
+pub span_below : (start many : ℕ) → Every (λ g. g < start + many) (span start many)
 unfolding span
 span_below start zero = none
 span_below start (suc many) =

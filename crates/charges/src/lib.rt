@@ -105,6 +105,8 @@ pub fn ladder_group(group: usize) -> Result<(), Reason>
 
 // The positions of a group of a class by band, or why there are none: a wrong group, or the book's
 // own refusal.
+// Inlined, so that no call copies the positions.
+#[inline(always)]
 pub fn ladder_sums(book: &[u8], class: usize, group: usize) -> Result<[Position; BANDS], Refused>
     requires { (1 ≤ class) × (class ≤ 4) }
     ensures refusal { told result ≡ ladder_refusal (refusal_of book.now) group }

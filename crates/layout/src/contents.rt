@@ -4,7 +4,7 @@ ghost use Rattle.book.specs.Counts.{contents_size};
 ghost use Rattle.layout.specs.Written.{written};
 ghost use Rattle.layout.specs.Files.{contents_bytes};
 
-use crate::write_at;
+use crate::write_array;
 use book::Counts;
 
 pub fn write_contents(counts: Counts, out: &mut [u8])
@@ -12,7 +12,7 @@ pub fn write_contents(counts: Counts, out: &mut [u8])
     ensures { out.new ≡ written out.old 0 (contents_bytes counts) }
 {
     for class in 1..5usize {
-        write_at(
+        write_array(
             &counts.class_rows(class).to_le_bytes(),
             out,
             2 * (class - 1),

@@ -1,6 +1,6 @@
 // The calls that write a book into an output, whose result tells its length. It is cast, since a
 // u64 has no From of a usize.
-ghost use Rattle.std.specs.Prelude.{◌≡◌, length as len};
+ghost use Rattle.std.specs.Prelude.{◌≡◌, [], ◌∷◌, length as len};
 ghost use Rattle.join.specs.Joined.{joined_of, join_output};
 ghost use Rattle.shortest.specs.Shortest.{shortest_of, shortest_output};
 ghost use Rattle.dearest.specs.Dearest.{dearest_of, dearest_output};
@@ -11,6 +11,13 @@ ghost use Rattle.offsetting.specs.NetOffset.{net_offset_of, net_offset_output};
 ghost use Rattle.market_risk.specs.Entries.{joined_entries, netted_entries, written_entries, shown_entries, costed_entries, priced_entries};
 
 use crate::refused_entries;
+
+// The entries of an accepted call with one figure besides the length.
+fn entries(length: usize, figure: u64) -> [u64; 5]
+    ensures { result ≡ 0 ∷ 0 ∷ 0 ∷ length ∷ figure ∷ [] }
+{
+    [0, 0, 0, length as u64, figure]
+}
 
 // Joins two books into out: bytes past the joined book keep their values, of a refused join all do.
 pub fn market_risk_join(a: &[u8], b: &[u8], out: &mut [u8], res: &mut [u64; 4])
@@ -30,7 +37,7 @@ pub fn market_risk_net(book: &[u8], out: &mut [u8], res: &mut [u64; 5])
     ensures res_after { res.new ≡ netted_entries (netted_of book.now (len out.old)) }
 {
     *res = match netting::net(book, out) {
-        Ok(netted) => [0, 0, 0, netted.length as u64, netted.comparisons as u64],
+        Ok(netted) => entries(netted.length, netted.comparisons as u64),
         Err(refused) => refused_entries(refused),
     };
 }
@@ -54,7 +61,7 @@ pub fn market_risk_net_and_offset(book: &[u8], out: &mut [u8], res: &mut [u64; 5
     ensures res_after { res.new ≡ netted_entries (net_offset_of book.now (len out.old)) }
 {
     *res = match offsetting::net_and_offset(book, out) {
-        Ok(both) => [0, 0, 0, both.length as u64, both.comparisons as u64],
+        Ok(both) => entries(both.length, both.comparisons as u64),
         Err(refused) => refused_entries(refused),
     };
 }
@@ -66,8 +73,8 @@ pub fn market_risk_shortest(book: &[u8], out: &mut [u8], res: &mut [u64; 5])
     ensures res_after { res.new ≡ shown_entries (shortest_of book.now (len out.old)) }
 {
     *res = match shortest::shortest(book, out) {
-        Ok(Some(length)) => [0, 0, 0, length as u64, 0],
-        Ok(None) => [0, 0, 0, 0, 1],
+        Ok(Some(length)) => entries(length, 0),
+        Ok(None) => entries(0, 1),
         Err(refused) => refused_entries(refused),
     };
 }
@@ -79,7 +86,7 @@ pub fn market_risk_dearest(rows: usize, most: u64, out: &mut [u8], res: &mut [u6
     ensures res_after { res.new ≡ costed_entries (dearest_of rows most (len out.old)) }
 {
     *res = match dearest::dearest(rows, most, out) {
-        Ok(costed) => [0, 0, 0, costed.length as u64, costed.total],
+        Ok(costed) => entries(costed.length, costed.total),
         Err(refused) => refused_entries(refused),
     };
 }

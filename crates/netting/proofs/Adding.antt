@@ -30,12 +30,12 @@ use Rattle.issues.proofs.Comparing.{row_comparisons, comparisons-last, row_withi
 use Rattle.issues.specs.Agreeing.{same_terms, differs}
 use Rattle.netting.specs.Inner.Places.{kept_issues, first_row_of}
 use Rattle.netting.specs.declared.firsts.Kept.{Kept}
-use Rattle.netting.specs.Inner.Kept.{firsts_of, Keeps, FirstRowIs, FirstRowFound}
+use Rattle.netting.specs.Inner.Kept.{Keeps, FirstRowIs, FirstRowFound}
 use Rattle.netting.specs.Inner.Gathering.{issue_numbers, gathered_in, longs_of, shorts_of, CanGather, AllGathered, DiffersAt}
 use Rattle.amounts.specs.declared.positions.Amounts.{Amounts}
 use Rattle.amounts.specs.Inner.Standing.{positions_in}
 use Rattle.amounts.specs.Inner.Own.{amounts_of}
-use Rattle.netting.proofs.Keeping.{issues_kept, many_kept}
+use Rattle.netting.proofs.Keeping.{many_kept}
 use Rattle.netting.proofs.Sides.{longs-length, shorts-length, long_at, short_at, longs-added, shorts-added}
 use Rattle.netting.proofs.Places.{Searched, searched_none, searched_next, searched_here, searched_all}
 use Rattle.book.proofs.ClassRows.{no_row}
@@ -104,11 +104,11 @@ pub record Adds (first : ℕ) (rows : List Row) (amounts₀ : Amounts) (row comp
 
 module _ (first : ℕ) (rows : List Row) (amounts₀ : Amounts) (can : CanGather first rows amounts₀) where
   pub adds_none : {kept : Kept} → kept.many ≡ 0 → Adds first rows amounts₀ 0 0 kept amounts₀
-  unfolding kept_issues firsts_of span comparisons_from
+  unfolding kept_issues span comparisons_from
   adds_none {kept} none =
       record {
         passed = searched_none (differs rows) rows;
-        keeps = record { many = omega arith; is = rw none };
+        keeps = record { many = omega arith; is_issues = rw none; is_places = rw none };
         is_compared = refl;
         few_compared = omega arith;
         longs_are = refl;
@@ -173,7 +173,7 @@ module _ (first : ℕ) (rows : List Row) (amounts₀ : Amounts) (can : CanGather
 
       -- the comparisons of the rows with this one
       made : compared' ≡ row_comparisons (kept_issues (take row (issue_numbers rows))) leg.issue
-      made = found.is_compared ∙ ap (λ (l : List ℕ). row_comparisons l leg.issue) (issues_kept now.keeps)
+      made = found.is_compared ∙ ap (λ (l : List ℕ). row_comparisons l leg.issue) now.keeps.is_issues
 
       counted : compared + compared' ≡ comparisons (take (row + 1) rows)
       unfolding kept_issues

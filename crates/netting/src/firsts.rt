@@ -4,26 +4,20 @@ ghost use Rattle.std.specs.Prelude.{◌≡◌, ◌≤◌, ◌<◌, length};
 ghost use Rattle.book.specs.Refusals.{most_rows};
 ghost use Rattle.issues.specs.Agreeing.{same_terms};
 ghost use Rattle.issues.specs.Comparing.{compared_with};
-ghost use Rattle.netting.specs.Inner.Places.{issues_in, IsPlace};
+ghost use Rattle.netting.specs.Inner.Places.{IsPlace};
 
 use book::{MOST_ROWS, Row};
 
-// An issue number, and the place of its first row.
-#[derive(Clone, Copy)]
-struct First {
-    issue: u16,
-    place: u16,
-}
-
-const NO_FIRST: First = First { issue: 0, place: 0 };
-
-// The first rows of the issues so far, in order.
-// An array and how many of it are kept, since nothing stands on a heap.
+// The first rows of the issues so far, in order: their issue numbers, and their places.
+// Two arrays, since the numbers alone are searched: in pairs a comparison took seven instructions
+// in the place of five. And how many of them are kept, since nothing stands on a heap.
 #[derive(Drop)]
 pub struct Kept {
-    firsts: [First; MOST_ROWS],
+    issues: [u16; MOST_ROWS],
+    places: [u16; MOST_ROWS],
     pub many: usize,
-    ghost sized: { length firsts ≡ most_rows },
+    ghost sized_issues: { length issues ≡ most_rows },
+    ghost sized_places: { length places ≡ most_rows },
 }
 
 // Where an issue number stands among the kept ones, and the comparisons made.
@@ -50,15 +44,15 @@ pub fn same_terms(a: Row, b: Row) -> bool
 
 // Compares an issue number with the kept ones, in order, to the first equal.
 // Counted where it compares, since the count is the definition's.
-fn find(issue: u16, kept: &[First]) -> Found
-    requires { length kept.now ≤ most_rows }
-    ensures at { IsPlace result.at issue (issues_in kept.now) }
-    ensures compared { result.compared ≡ compared_with (issues_in kept.now) issue }
+fn find(issue: u16, issues: &[u16]) -> Found
+    requires { length issues.now ≤ most_rows }
+    ensures at { IsPlace result.at issue issues.now }
+    ensures compared { result.compared ≡ compared_with issues.now issue }
 {
     let mut compared: usize = 0;
-    for (at, first) in kept.iter().enumerate() {
+    for (at, other) in issues.iter().enumerate() {
         compared += 1;
-        if first.issue == issue {
+        if *other == issue {
             return Found {
                 at: Some(at),
                 compared,
@@ -76,7 +70,8 @@ impl Kept {
         ensures { result.many ≡ 0 }
     {
         Kept {
-            firsts: [NO_FIRST; MOST_ROWS],
+            issues: [0; MOST_ROWS],
+            places: [0; MOST_ROWS],
             many: 0,
         }
     }
@@ -93,19 +88,17 @@ impl Kept {
                 compared: 0,
             };
         }
-        let found = find(issue, &self.firsts[..self.many]);
+        let found = find(issue, &self.issues[..self.many]);
         let compared = found.compared;
         match found.at {
             Some(at) => Place {
-                at: usize::from(self.firsts[at].place),
+                at: usize::from(self.places[at]),
                 compared,
             },
             None => {
                 // The cast narrows, and is proved to lose nothing.
-                self.firsts[self.many] = First {
-                    issue,
-                    place: row as u16,
-                };
+                self.issues[self.many] = issue;
+                self.places[self.many] = row as u16;
                 self.many += 1;
                 Place { at: row, compared }
             }

@@ -1,7 +1,7 @@
 -- The accepted tables are those that are described directly, and the laws of the ladder hold for them; document 01's table is one of them.
 -- Assumes nothing.
 use Prim.Native.Nat.{ℕ, zero, suc, ◌+◌, ◌≤◌, ◌<◌}
-use mathlib.Core.Path.{◌≡◌, refl, sym}
+use mathlib.Core.Path.{◌≡◌, refl, sym, ap, ◌∙◌}
 use mathlib.Core.Bool.{Bool, true, false, not, true≢false}
 use mathlib.Core.List.{List, [], ◌∷◌, map}
 use native.Mathlib.Decide.{dec_lt, le_ind}
@@ -9,20 +9,20 @@ use native.Mathlib.Nat.{le_refl}
 use native.Mathlib.Numerals.{add-one}
 use native.Mathlib.Omega.{arith}
 use lib.ListN.{length, get_or, get_or-eq_default}
-use Rattle.std.proofs.Common.{Result, Ok}
+use Rattle.std.proofs.Common.{Ok, Err}
 use borrow.Author.Tests.{leb-true, le-leb, eqb-true, eq-eqb}
 use Rattle.sums.specs.Sums.{span}
 use Rattle.sums.proofs.Cases.{both, untaken}
 use Rattle.sums.proofs.Filling.{listed_at, listed_length}
 use Rattle.book.specs.Fields.{u16_at}
-use Rattle.book.specs.declared.Reason.{Reason}
-use Rattle.book.specs.Reasons.{number_in}
+use Rattle.book.specs.Reasons.{number_of}
 use Rattle.ladder.specs.declared.Percents.{Percents}
 use Rattle.ladder.specs.declared.Table.{Table}
 use Rattle.ladder.specs.Table.{AcceptedPercents, most_weight, weight_in}
 use Rattle.ladder.specs.Inner.Steps.{TableBounds}
-use Rattle.table.specs.Loaded.{table_bands, weight_at, percents_of, table_of, weights_hold, percents_hold, table_refusal, AcceptedTable, standard_bytes}
-use Rattle.table.specs.Inner.Loading.{loaded_of}
+use Rattle.table.specs.Loaded.{table_size, table_bands, weight_at, percents_of, table_of, weights_hold, percents_hold, table_refusal, AcceptedTable, standard_bytes}
+use Rattle.table.specs.declared.RefusedTable.{RefusedTable}
+use Rattle.table.specs.Inner.Loading.{Loaded, loaded, loaded_of}
 
 -- ---- weights, one after the other
 record Weighed (least : ℕ) (list : List ℕ) : Type 0 where
@@ -155,17 +155,21 @@ module _ (bytes : List ℕ) where
 
 -- ---- what was loaded
 module _ (bytes : List ℕ) where
-  pub loaded_number : (answer : Result Table Reason) → number_in answer ≡ (loaded_of bytes).number → number_in answer ≡ table_refusal bytes
-  unfolding loaded_of
-  loaded_number answer is = is
+  pub loaded_number : (table : RefusedTable) → loaded (Err table) ≡ loaded_of bytes → number_of table.reason ≡ table_refusal bytes
+  unfolding loaded loaded_of
+  loaded_number table is = ap (λ (l : Loaded). l.number) is
 
-  module _ (table : Table) (is : number_in (Ok table) ≡ (loaded_of bytes).number) where
+  module _ (table : Table) (is : loaded (Ok table) ≡ loaded_of bytes) where
     pub not_refused : table_refusal bytes ≡ 0
-    unfolding number_in
-    not_refused = sym (loaded_number (Ok table) is)
+    unfolding loaded loaded_of
+    not_refused = sym (ap (λ (l : Loaded). l.number) is)
 
-    pub loaded_accepted : table ≡ table_of bytes → TableBounds table
-    loaded_accepted e = rw e (accepted_table bytes (described bytes not_refused))
+    pub loaded_table : table ≡ table_of bytes
+    unfolding loaded loaded_of
+    loaded_table = ap (λ (l : Loaded). l.table) is ∙ rw (eq-eqb (length bytes) table_size (described bytes not_refused).sized) refl
+
+    pub loaded_accepted : TableBounds table
+    loaded_accepted = rw loaded_table (accepted_table bytes (described bytes not_refused))
 
 -- ---- document 01's table is one of them
 pub standard_accepted : table_refusal standard_bytes ≡ 0

@@ -2,8 +2,27 @@
 ghost use Rattle.std.specs.Prelude.{◌≡◌, map, ◌≤◌, length};
 ghost use Rattle.sums.specs.Sums.{span};
 ghost use Rattle.table.specs.Loaded.{table_size, table_bands, weight_at, percents_of, table_of};
+ghost use Rattle.table.specs.Inner.Loading.{no_table};
 
 use ladder::{BANDS, Percents, Table};
+
+// No table.
+pub fn none() -> Table
+    ensures { result ≡ no_table }
+{
+    let percents = Percents {
+        vertical: 0,
+        zone1: 0,
+        zone2: 0,
+        zone3: 0,
+        adjacent: 0,
+        apart: 0,
+    };
+    Table {
+        weights: [0; BANDS],
+        percents,
+    }
+}
 
 // The table.
 #[tactic(auto, unfolding(crate::specs::Loaded::table_of))]

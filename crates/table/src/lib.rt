@@ -4,12 +4,12 @@
 mod conditions;
 mod fields;
 
-ghost use Rattle.std.specs.Prelude.{◌≡◌, IfOk};
-ghost use Rattle.book.specs.Reasons.{number_in};
-ghost use Rattle.table.specs.Loaded.{standard_bytes, table_of};
-ghost use Rattle.table.specs.Inner.Loading.{loaded_of};
+ghost use Rattle.std.specs.Prelude.{◌≡◌};
+ghost use Rattle.book.specs.Reasons.{at_start};
+ghost use Rattle.table.specs.Loaded.{standard_bytes};
+ghost use Rattle.table.specs.Inner.Loading.{loaded, loaded_of};
 
-use book::Reason;
+use book::{Reason, Refused};
 use ladder::Table;
 
 pub const SIZE: usize = 36;
@@ -27,19 +27,39 @@ pub fn standard() -> [u8; SIZE]
     STANDARD
 }
 
+// What a refused table holds, zeros where it has not 36 bytes, and why it is refused.
+#[derive(Clone, Copy)]
+pub struct RefusedTable {
+    pub table: Table,
+    pub reason: Reason,
+}
+
+impl From<RefusedTable> for Refused {
+    ghost from_gives = { λ table refused. refused ≡ at_start table.reason };
+
+    fn from(table: RefusedTable) -> Refused {
+        Refused::from(table.reason)
+    }
+}
+
 // Reads a table: 18 where it has not 36 bytes, 19 where a condition is broken.
-#[tactic(auto, unfolding(crate::specs::Inner::Loading::loaded_of, crate::specs::Loaded::table_refusal, book::specs::Reasons::number_in, book::specs::Reasons::number_of))]
-pub fn load(bytes: &[u8]) -> Result<Table, Reason>
-    ensures refusal { number_in result ≡ (loaded_of bytes.now).number }
-    ensures table { IfOk result (λ table. table ≡ table_of bytes.now) }
+#[tactic(auto, unfolding(crate::specs::Inner::Loading::loaded_of, crate::specs::Inner::Loading::loaded, crate::specs::Loaded::table_refusal, book::specs::Reasons::number_of))]
+pub fn load(bytes: &[u8]) -> Result<Table, RefusedTable>
+    ensures { loaded result ≡ loaded_of bytes.now }
 {
     if bytes.len() != SIZE {
-        return Err(Reason::TableLength);
+        return Err(RefusedTable {
+            table: fields::none(),
+            reason: Reason::TableLength,
+        });
     }
     let table = fields::read_table(bytes);
     if conditions::weights_hold(table.weights) && conditions::percents_hold(table.percents) {
         Ok(table)
     } else {
-        Err(Reason::TableValues)
+        Err(RefusedTable {
+            table,
+            reason: Reason::TableValues,
+        })
     }
 }

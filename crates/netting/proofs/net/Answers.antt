@@ -16,7 +16,7 @@ use Rattle.book.specs.Accepted.{Accepted}
 use Rattle.book.proofs.Numbers.{some_told}
 use Rattle.book.proofs.Acceptance.{accepts_accepted}
 use Rattle.amounts.specs.declared.positions.Amounts.{Amounts}
-use Rattle.amounts.proofs.Outcome.{stands_written, stands_output}
+use Rattle.amounts.proofs.Outcome.{stands_written, stands_output_by_room}
 use Rattle.netting.specs.declared.Netted.{Netted as Figures}
 use Rattle.netting.specs.Netted.{issues_refusal, netted_book, comparisons_of, netting_refusal, netting_answer, netted_of, netting_output}
 use Rattle.netting.specs.Inner.Nets.{Settled}
@@ -57,7 +57,7 @@ module _ {s' s : List ℕ} (same : s' ≡ s) (ok : Accepted s') (out : List ℕ)
     unfolding netted_book
     by-room r is after-is h =
         rw (← same)
-        (promised none (passed_on _ _ _ _ h (too_short (refused 0 0) (netted_book s') out (comparisons_of s') refl r (stands_written settled.nets out is) (stands_output settled.nets out after-is))))
+        (promised none (passed_on _ _ _ _ h (too_short (refused 0 0) (netted_book s') out (comparisons_of s') refl r (stands_written settled.nets out is) (stands_output_by_room settled.nets out after-is))))
 
     done : {n : ℕ} → written_answer (Ok n) ≡ written_of (room_refusal (length (standing_book (positions_in amounts) s')) (length out)) (standing_book (positions_in amounts) s')
         → {after : List ℕ} → after ≡ output_of (room_refusal (length (standing_book (positions_in amounts) s')) (length out)) (standing_book (positions_in amounts) s') out
@@ -65,7 +65,7 @@ module _ {s' s : List ℕ} (same : s' ≡ s) (ok : Accepted s') (out : List ℕ)
     unfolding netted_book
     done {n} is after-is =
         rw (← same, settled.is_compared)
-        (promised none (carried_out (refused 0 0) (netted_book s') out (comparisons_of s') refl n (stands_written settled.nets out is) (stands_output settled.nets out after-is)))
+        (promised none (carried_out (refused 0 0) (netted_book s') out (comparisons_of s') refl n (stands_written settled.nets out is) (stands_output_by_room settled.nets out after-is)))
 
 pub returns-in_err-read : goal.returns-in_err-read
 unfolding told

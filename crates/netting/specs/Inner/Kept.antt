@@ -2,22 +2,18 @@
 use Rattle.std.specs.Prelude.{ℕ, ◌≤◌, ◌≡◌, cond, length, take, eqb}
 use mathlib.Core.List.{List, [], ◌∷◌, ◌++◌, map}
 use Rattle.issues.specs.Comparing.{compared_with}
-use Rattle.netting.specs.declared.firsts.First.{First}
 use Rattle.netting.specs.declared.firsts.Kept.{Kept}
-use Rattle.netting.specs.Inner.Places.{place_of, issues_in, kept_issues, first_row_of}
+use Rattle.netting.specs.Inner.Places.{place_of, kept_issues, first_row_of}
 
--- the first rows of the issues of some rows, in order
-unfoldable pub firsts_of : List ℕ → List First
-firsts_of issues = map (λ issue. record { issue = issue; place = place_of issue issues }) (kept_issues issues)
+-- the issue numbers that are kept
+abbrev pub issues_in : Kept → List ℕ
+issues_in kept = take kept.many kept.issues
 
--- those that are kept
-abbrev pub firsts_in : Kept → List First
-firsts_in kept = take kept.many kept.firsts
-
--- they are the first rows of the issues of the rows so far
+-- the kept issues of the rows so far, and the places of their first rows
 pub record Keeps (issues : List ℕ) (kept : Kept) : Type 0 where
   pub many : kept.many ≤ length issues
-  pub is : firsts_in kept ≡ firsts_of issues
+  pub is_issues : issues_in kept ≡ kept_issues issues
+  pub is_places : take kept.many kept.places ≡ map (λ issue. place_of issue issues) (kept_issues issues)
 
 -- what one row more, of an issue, makes of them: its amounts' place, and what is kept
 pub record FirstRowIs (before : List ℕ) (issue at : ℕ) (kept : Kept) : Type 0 where
@@ -27,4 +23,4 @@ pub record FirstRowIs (before : List ℕ) (issue at : ℕ) (kept : Kept) : Type 
 -- and that so it is, whatever rows came before; with the comparisons made
 pub record FirstRowFound (issue row : ℕ) (kept : Kept) (at compared : ℕ) (kept' : Kept) : Type 0 where
   pub after : (before : List ℕ) → length before ≡ row → Keeps before kept → FirstRowIs before issue at kept'
-  pub is_compared : compared ≡ cond (eqb issue 0) 0 (compared_with (issues_in (firsts_in kept)) issue)
+  pub is_compared : compared ≡ cond (eqb issue 0) 0 (compared_with (issues_in kept) issue)

@@ -1,8 +1,7 @@
 -- The place of the first row of each issue among the rows of a class.
 use Rattle.std.specs.Prelude.{ℕ, suc, ◌<◌, ◌≡◌, Bool, cond, Option, Some, None, length, get_or, eqb}
-use mathlib.Core.List.{List, [], ◌∷◌, map, foldl}
+use mathlib.Core.List.{List, [], ◌∷◌, foldl}
 use Rattle.issues.specs.Comparing.{kept_with}
-use Rattle.netting.specs.declared.firsts.First.{First}
 
 -- the place of the first element that a test finds; of none, the number of elements
 unfoldable pub first_place : {A : Type 0} → (A → Bool) → List A → ℕ
@@ -19,10 +18,6 @@ IsPlace (Some at) issue issues = (at ≡ place_of issue issues) × (at < length 
 IsPlace None issue issues = place_of issue issues ≡ length issues
 
 -- ---- the first rows of the issues of a class
--- their issue numbers
-abbrev pub issues_in : List First → List ℕ
-issues_in firsts = map (λ first. first.issue) firsts
-
 -- the issue numbers of some rows but 0, each once, in order
 unfoldable pub kept_issues : List ℕ → List ℕ
 kept_issues issues = foldl kept_with [] issues

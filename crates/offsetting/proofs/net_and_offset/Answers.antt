@@ -17,7 +17,7 @@ use Rattle.book.specs.Accepted.{Accepted}
 use Rattle.book.proofs.Acceptance.{accepts_accepted}
 use Rattle.book.proofs.Numbers.{some_told}
 use Rattle.amounts.specs.declared.positions.Amounts.{Amounts}
-use Rattle.amounts.proofs.Outcome.{stands_written, stands_output}
+use Rattle.amounts.proofs.Outcome.{stands_written, stands_output_by_room}
 use Rattle.netting.specs.declared.Netted.{Netted as Figures}
 use Rattle.netting.specs.Netted.{issues_refusal, netted_class, comparisons_of, netting_answer}
 use Rattle.netting.specs.Inner.Nets.{Settled}
@@ -66,7 +66,7 @@ module _ {s' s : List ℕ} (same : s' ≡ s) (ok : Accepted s') (out : List ℕ)
     unfolding net_offset_book
     by-room r is after-is h =
         rw (← same)
-        (promised none (passed_on _ _ _ _ h (too_short (refused 0 0) (net_offset_book s') out (comparisons_of s') refl r (stands_written stands out is) (stands_output stands out after-is))))
+        (promised none (passed_on _ _ _ _ h (too_short (refused 0 0) (net_offset_book s') out (comparisons_of s') refl r (stands_written stands out is) (stands_output_by_room stands out after-is))))
 
     done : {n : ℕ} → written_answer (Ok n) ≡ written_of (room_refusal (length (standing_book (positions_in amounts) s')) (length out)) (standing_book (positions_in amounts) s')
         → {after : List ℕ} → after ≡ output_of (room_refusal (length (standing_book (positions_in amounts) s')) (length out)) (standing_book (positions_in amounts) s') out
@@ -74,7 +74,7 @@ module _ {s' s : List ℕ} (same : s' ≡ s) (ok : Accepted s') (out : List ℕ)
     unfolding net_offset_book
     done {n} is after-is =
         rw (← same, sums.is_compared)
-        (promised none (carried_out (refused 0 0) (net_offset_book s') out (comparisons_of s') refl n (stands_written stands out is) (stands_output stands out after-is)))
+        (promised none (carried_out (refused 0 0) (net_offset_book s') out (comparisons_of s') refl n (stands_written stands out is) (stands_output_by_room stands out after-is)))
 
 pub returns-in_err-book : goal.returns-in_err-book
 unfolding told

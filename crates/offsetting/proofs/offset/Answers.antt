@@ -4,7 +4,7 @@ use mathlib.Core.List.{List}
 use Prim.Native.Nat.{ℕ}
 use Rattle.book.specs.Reasons.{told}
 use Rattle.book.proofs.Acceptance.{accepts_accepted}
-use Rattle.amounts.proofs.Outcome.{stands_written, stands_output}
+use Rattle.amounts.proofs.Outcome.{stands_written, stands_output_by_room}
 use Rattle.offsetting.specs.Offset.{offset_book}
 use Rattle.offsetting.proofs.Outcome.{Answers, offset_stands, turned-away, carried_out}
 use Rattle.offsetting.proofs.offset.Goals.{In_err-book, After-write_book}
@@ -22,7 +22,7 @@ unfolding offset_book
 written c =
     let ok = accepts_accepted _ c.in_ok-book.book.accepted in
     let now = offset_stands ok c.own_amounts.ensures c.drop_interest.ensures in
-    carried_out _ _ ok _ (stands_written now c.args.out.now c.write_book.ensures.length) (stands_output now c.args.out.now c.write_book.ensures.output)
+    carried_out _ _ ok _ (stands_written now c.args.out.now c.write_book.ensures.length) (stands_output_by_room now c.args.out.now c.write_book.ensures.output)
 
 pub returns : goal.returns
 returns c =

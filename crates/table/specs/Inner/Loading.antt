@@ -1,7 +1,9 @@
 -- What loading gives: the refusal, and what the bytes hold where there are 36 of them.
-use Rattle.std.specs.Prelude.{cond, List, ℕ, eqb, length, replicate}
+use Rattle.std.specs.Prelude.{cond, List, ℕ, eqb, length, replicate, Result, Ok, Err}
+use Rattle.book.specs.Reasons.{number_of}
 use Rattle.ladder.specs.declared.Percents.{Percents}
 use Rattle.ladder.specs.declared.Table.{Table}
+use Rattle.table.specs.declared.RefusedTable.{RefusedTable}
 use Rattle.table.specs.Loaded.{table_size, table_bands, table_of, table_refusal}
 
 -- why a table is refused, 0 where it is not, and what it holds
@@ -17,3 +19,8 @@ no_table = record { weights = replicate table_bands 0; percents = no_percents }
 
 unfoldable pub loaded_of : List ℕ → Loaded
 loaded_of bytes = record { number = table_refusal bytes; table = cond (eqb (length bytes) table_size) (table_of bytes) no_table }
+
+-- what an answer of loading tells
+unfoldable pub loaded : Result Table RefusedTable → Loaded
+loaded (Ok table) = record { number = 0; table = table }
+loaded (Err refused) = record { number = number_of refused.reason; table = refused.table }

@@ -12,9 +12,9 @@ pub loop-class-init : goal.loop-class-init
 unfolding count_piece contents_bytes
 loop-class-init c = begins _ _ 0 (omega (arith, contents_length c.args.counts))
 
-pub write_at-requires : goal.write_at-requires
+pub write_array-requires : goal.write_array-requires
 unfolding count_piece two_bytes_of
-write_at-requires c =
+write_array-requires c =
     omega (arith, ap length c.to_le_bytes.ensures, piece_room _ _ _ _ _ _ c.loop-class.invariant (omega arith))
 
 pub loop-class-preserved : goal.loop-class-preserved
@@ -23,7 +23,7 @@ loop-class-preserved c =
     let out = c.loop-class.out in
     let at = 2 * (c.loop-class.class - 1) in
     let bytes = low_two c.class_rows.result (search rules) c.to_le_bytes.ensures ∙ ap two_bytes_of c.class_rows.ensures in
-    writes-next _ _ _ out _ _ c.loop-class.invariant (omega arith) _ _ (c.write_at.ensures ∙ ap (written out at) bytes) (omega arith)
+    writes-next _ _ _ out _ _ c.loop-class.invariant (omega arith) _ _ (c.write_array.ensures ∙ ap (written out at) bytes) (omega arith)
 
 pub returns : goal.returns
 unfolding count_piece contents_bytes

@@ -33,9 +33,9 @@ returns c =
     let long = low_four row.long (search rules) c.to_le_bytes-4.ensures in
     let short = low_four row.short (search rules) c.to_le_bytes-5.ensures in
     row_in_steps row c.args.out.now c.args.at c.requires
-    c.write_at.ensures
-    (rw days at c.write_at-2.ensures)
-    (rw coupon at c.write_at-3.ensures)
-    (rw issue at c.write_at-4.ensures)
-    (rw long at c.write_at-5.ensures)
-    (rw short at c.write_at-6.ensures)
+    c.write_array.ensures
+    (rw days at c.write_array-2.ensures)
+    (rw coupon at c.write_array-3.ensures)
+    (rw issue at c.write_array-4.ensures)
+    (rw long at c.write_array-5.ensures)
+    (rw short at c.write_array-6.ensures)

@@ -8,7 +8,7 @@ use Rattle.market_risk.proofs.writing.market_risk_dearest.Goals as goal
 
 pub returns-in-Ok-clause-res_after : goal.returns-in-Ok-clause-res_after
 unfolding told refused dearest_answer figure_in refusal_entries costed_entries
-returns-in-Ok-clause-res_after c = ap costed_entries c.in-Ok.ensures.answer
+returns-in-Ok-clause-res_after c = c.entries.ensures ∙ ap costed_entries c.in-Ok.ensures.answer
 
 pub returns-in-Err-clause-res_after : goal.returns-in-Err-clause-res_after
 unfolding told refused dearest_answer figure_in refusal_entries costed_entries

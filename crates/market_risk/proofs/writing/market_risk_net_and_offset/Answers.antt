@@ -7,7 +7,7 @@ use Rattle.market_risk.proofs.writing.market_risk_net_and_offset.Goals as goal
 
 pub returns-in-Ok-clause-res_after : goal.returns-in-Ok-clause-res_after
 unfolding told refused figure_in refusal_entries netted_entries
-returns-in-Ok-clause-res_after c = ap netted_entries c.in-Ok.ensures.answer
+returns-in-Ok-clause-res_after c = c.entries.ensures ∙ ap netted_entries c.in-Ok.ensures.answer
 
 pub returns-in-Err-clause-res_after : goal.returns-in-Err-clause-res_after
 unfolding told refused figure_in refusal_entries netted_entries

@@ -1,9 +1,8 @@
 -- `netting::firsts::find` meets its contract: no issue before the place is the one that is looked for.
 use mathlib.Core.Path.{◌≡◌}
 use lib.Dec.{eqb}
-use Rattle.netting.specs.Inner.Places.{issues_in}
 use Rattle.netting.proofs.Places.{Searched}
 use Rattle.netting.proofs.firsts.find.Given as goal
 
 abbrev pub invariant-loop-at : goal.invariant-loop-at
-invariant-loop-at l = (l.compared ≡ l.at) × Searched (λ other. eqb other l.issue) (issues_in l.kept) l.at
+invariant-loop-at l = (l.compared ≡ l.at) × Searched (λ other. eqb other l.issue) l.issues l.at
