@@ -3,7 +3,7 @@
 use mathlib.Core.Path.{◌≡◌, refl, ap, ◌∙◌}
 use mathlib.Core.Bool.{Bool, true, false, cond}
 use mathlib.Core.List.{List, ◌∷◌}
-use Prim.Native.Nat.{ℕ, ◌+◌, ◌<◌}
+use Prim.Native.Nat.{ℕ, ◌+◌, ◌*◌, ◌≤◌, ◌<◌}
 use native.Mathlib.Nat.{mul-zero}
 use native.Mathlib.Omega.{arith}
 use borrow.Author.Tests.{eqb-true}
@@ -16,7 +16,7 @@ use Rattle.sums.proofs.Every.{every_implied}
 use Rattle.charges.specs.Charges.{groups}
 use Rattle.charges.specs.Inner.Slots.{group_count}
 use Rattle.charges.specs.Inner.Tables.{Used, counted_groups, UsedOf}
-use Rattle.charges.proofs.Listing.{span_below}
+use Rattle.charges.proofs.Listing.{span_below, all_within}
 
 -- what costs nothing where none is counted sums over those that are counted as over all
 module _ (count : ℕ → ℕ) where
@@ -39,3 +39,6 @@ module _ (cost size : ℕ → ℕ) (rate bound : ℕ) (rated : Rated cost size r
 
   pub used_sum : sum_of cost (take used.many used.list) ≡ sum_of cost groups
   used_sum = ap (sum_of cost) of.is ∙ counted_sum count cost no_cost
+
+  pub used_within : sum_of cost (take used.many used.list) ≤ rate * bound
+  used_within = omega (arith, used_sum, all_within cost size rate bound rated)

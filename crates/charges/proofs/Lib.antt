@@ -5,6 +5,7 @@ pub mod Legs
 pub mod Made
 pub mod Listing
 pub mod Counted
+pub mod Fronts
 pub mod Places
 pub mod Progress
 pub mod Sorting

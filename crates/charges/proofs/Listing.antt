@@ -208,6 +208,10 @@ pub record Passed (cost count : ℕ → ℕ) (table : List ℕ) : Type 0 where
   pub used : (g : ℕ) → g < group_count → (count g ≡ 0 → ⊥) → get_or table g 0 ≡ cost g
   pub unused : (g : ℕ) → g < group_count → count g ≡ 0 → get_or table g 0 ≡ 0
 
+-- what all groups cost, by their sizes
+pub all_within : (cost size : ℕ → ℕ) (rate bound : ℕ) → Rated cost size rate bound group_count → sum_of cost groups ≤ rate * bound
+all_within cost size rate bound rated = omega (arith, sum_of_rate rate cost size groups rated.each, mul-le-mul_left rate rated.whole)
+
 -- where a group that is not counted has no size, it has the costs of all
 module _ (cost size : ℕ → ℕ) (rate bound : ℕ) (rated : Rated cost size rate bound group_count)
     (count : ℕ → ℕ)
@@ -234,10 +238,4 @@ module _ (cost size : ℕ → ℕ) (rate bound : ℕ) (rated : Rated cost size r
       ∙ sum_same _ cost group_count each_cost.below
 
   pub costs_within : sum_of (λ entry. entry) table ≤ rate * bound
-  costs_within =
-      omega (
-        arith,
-        costs_sum,
-        sum_of_rate rate cost size groups rated.each,
-        mul-le-mul_left rate rated.whole,
-      )
+  costs_within = omega (arith, costs_sum, all_within cost size rate bound rated)

@@ -27,7 +27,7 @@ use Rattle.ladder.specs.declared.InterestFigures.{InterestFigures}
 use Rattle.ladder.specs.declared.CommodityFigures.{CommodityFigures}
 use Rattle.table.specs.Loaded.{table_refusal, table_of}
 use Rattle.charges.specs.Charges.{interest_figures_of, commodity_figures_of}
-use Rattle.charges.specs.Report.{class_rows, before, ladder_refusal, figures_or, no_interest, no_commodity, interest_answer, commodity_answer, interest_ladder_of, commodity_ladder_of}
+use Rattle.charges.specs.Report.{class_rows, before, ladder_refusal, figures_or, no_interest, no_commodity, InterestLadder, CommodityLadder, interest_answer, commodity_answer, interest_ladder_of, commodity_ladder_of}
 use Rattle.charges.specs.Inner.Ladders.{CleanPart, GroupSums}
 use Rattle.charges.specs.Inner.Answers.{SumsGiven}
 
@@ -91,7 +91,15 @@ module _ {A : Type 0} (figures none : A) where
   figures_given : (refusal : Refusal) → refusal.number ≡ 0 → figures ≡ cond (eqb refusal.number 0) figures none
   figures_given refusal good = simp (eq-eqb _ _ good)
 
--- ---- the answers
+-- ---- the answers, field by field
+pub same_interest : {refusal refusal' : Refusal} {figures figures' : InterestFigures} → refusal ≡ refusal' → figures ≡ figures'
+    → ◌≡◌ {A = InterestLadder} (record { refusal = refusal; figures = figures }) (record { refusal = refusal'; figures = figures' })
+same_interest e f = λ i. record { refusal = e i; figures = f i }
+
+pub same_commodity : {refusal refusal' : Refusal} {figures figures' : CommodityFigures} → refusal ≡ refusal' → figures ≡ figures'
+    → ◌≡◌ {A = CommodityLadder} (record { refusal = refusal; figures = figures }) (record { refusal = refusal'; figures = figures' })
+same_commodity e f = λ i. record { refusal = e i; figures = f i }
+
 module _ (table s : List ℕ) (group : ℕ) where
   abbrev interest_refusal : Refusal
   interest_refusal = ladder_refusal (before (table_refusal table) (refusal_of s)) group
@@ -99,15 +107,12 @@ module _ (table s : List ℕ) (group : ℕ) where
   pub interest_refused : (answer : Result InterestFigures Refused) (r : Refused) → IsErrAnd answer (λ y. y ≡ r) → numbers_of r ≡ interest_refusal → interest_answer answer ≡ interest_ladder_of table s group
   unfolding interest_answer interest_ladder_of
   interest_refused answer r h e =
-      let refusal = told_on answer r h e in
-      λ i. record { refusal = refusal i; figures = figures_refused (interest_figures_of (table_of table) group (class_rows s 1)) no_interest answer r h e i }
+      same_interest (told_on answer r h e) (figures_refused (interest_figures_of (table_of table) group (class_rows s 1)) no_interest answer r h e)
 
   pub interest_given : {figures : InterestFigures} → refused 0 0 ≡ interest_refusal → figures ≡ interest_figures_of (table_of table) group (class_rows s 1)
       → interest_answer (Ok figures) ≡ interest_ladder_of table s group
   unfolding interest_answer interest_ladder_of figures_or told
-  interest_given e f =
-      let given = f ∙ figures_given (interest_figures_of (table_of table) group (class_rows s 1)) no_interest interest_refusal (none_told e) in
-      λ i. record { refusal = e i; figures = given i }
+  interest_given e f = same_interest e (f ∙ figures_given (interest_figures_of (table_of table) group (class_rows s 1)) no_interest interest_refusal (none_told e))
 
 module _ (s : List ℕ) (group : ℕ) where
   abbrev commodity_refusal : Refusal
@@ -116,12 +121,9 @@ module _ (s : List ℕ) (group : ℕ) where
   pub commodity_refused : (answer : Result CommodityFigures Refused) (r : Refused) → IsErrAnd answer (λ y. y ≡ r) → numbers_of r ≡ commodity_refusal → commodity_answer answer ≡ commodity_ladder_of s group
   unfolding commodity_answer commodity_ladder_of
   commodity_refused answer r h e =
-      let refusal = told_on answer r h e in
-      λ i. record { refusal = refusal i; figures = figures_refused (commodity_figures_of group (class_rows s 4)) no_commodity answer r h e i }
+      same_commodity (told_on answer r h e) (figures_refused (commodity_figures_of group (class_rows s 4)) no_commodity answer r h e)
 
   pub commodity_given : {figures : CommodityFigures} → refused 0 0 ≡ commodity_refusal → figures ≡ commodity_figures_of group (class_rows s 4)
       → commodity_answer (Ok figures) ≡ commodity_ladder_of s group
   unfolding commodity_answer commodity_ladder_of figures_or told
-  commodity_given e f =
-      let given = f ∙ figures_given (commodity_figures_of group (class_rows s 4)) no_commodity commodity_refusal (none_told e) in
-      λ i. record { refusal = e i; figures = given i }
+  commodity_given e f = same_commodity e (f ∙ figures_given (commodity_figures_of group (class_rows s 4)) no_commodity commodity_refusal (none_told e))

@@ -4,6 +4,7 @@ use Prim.Native.Nat.{ℕ, ◌+◌, ◌*◌, ◌-◌, ◌≤◌}
 use mathlib.Core.Path.{◌≡◌}
 use native.Mathlib.Nat.{add_comm}
 use native.Mathlib.Omega.{arith}
+use Rattle.ladder.specs.declared.positions.Step.{Step}
 use Rattle.ladder.specs.Position.{Position, empty, ◌⊕◌, gross, matched, net, absolute_net}
 
 -- long and short exchanged
@@ -13,6 +14,10 @@ mirrored a = record { long = a.short; short = a.long }
 -- two positions with equal sides are equal
 pub same_position : {a b : Position} → a.long ≡ b.long → a.short ≡ b.short → a ≡ b
 same_position p q = λ i. record { long = p i; short = q i }
+
+-- two steps that leave the same and match the same are equal
+pub same_step : {A : Type 0} {a b : Step A} → a.left ≡ b.left → a.matched ≡ b.matched → a ≡ b
+same_step p q = λ i. record { left = p i; matched = q i }
 
 pub empty-plus : (a : Position) → empty ⊕ a ≡ a
 empty-plus a = same_position (omega arith) (omega arith)

@@ -1,22 +1,21 @@
 -- The rows of a class that options give, and their bytes: one option more, how many they are, and how they are written one by one.
 -- Assumes nothing.
-use mathlib.Core.Path.{◌≡◌, refl, sym, ap}
+use mathlib.Core.Path.{◌≡◌, refl, sym, ap, ◌∙◌}
 use mathlib.Core.Bool.{Bool, true, false, cond, not, ◌&&◌}
-use mathlib.Core.List.{List, [], ◌∷◌, ◌++◌, flat_map, append-nil, append_assoc}
-use Prim.Native.Nat.{ℕ, zero, suc, ◌+◌, ◌-◌, ◌*◌, ◌≤◌, ◌<◌}
-use native.Mathlib.Nat.{add-zero, add-suc}
-use native.Mathlib.Numerals.{add-one}
+use mathlib.Core.List.{List, [], ◌∷◌, ◌++◌, map, flat_map, append-nil, append_assoc}
+use Prim.Native.Nat.{ℕ, ◌+◌, ◌-◌, ◌*◌, ◌≤◌, ◌<◌}
 use native.Mathlib.Omega.{arith}
 use lib.Dec.{eqb}
 use lib.ListN.{length, length-append}
-use Rattle.sums.specs.Sums.{span}
+use Rattle.sums.specs.Sums.{sum_of, span}
+use Rattle.sums.proofs.Spans.{sum_grows}
 use Rattle.book.specs.declared.Row.{Row}
 use Rattle.book.specs.Counts.{row_size}
 use Rattle.book.specs.Legs.{of_class}
 use Rattle.layout.specs.Files.{row_bytes}
 use Rattle.layout.specs.Written.{written}
 use Rattle.layout.proofs.Rows.{row_length, rows_length}
-use Rattle.layout.proofs.Writing.{written-nothing, written-more}
+use Rattle.layout.proofs.Writing.{written-nothing, written-more, written-length}
 use Rattle.options.specs.Table.{OptionRow, option_count, option_at, options_of}
 use Rattle.options.specs.Delta.{delta_leg, delta_legs}
 use Rattle.options.specs.Inner.Reading.{options_to}
@@ -63,13 +62,16 @@ module _ (class : ℕ) where
       go true rows more = refl
       go false rows more = refl
 
-  -- and its bytes
+  -- ---- how many
+  abbrev pub one_row : OptionRow → ℕ
+  one_row option = cond (gives_row class option) 1 0
+
   pub bytes_length : (options : List OptionRow) → length (delta_bytes class options) ≡ row_size * length (delta_rows class options)
   unfolding delta_bytes
   bytes_length options = rows_length (delta_rows class options)
 
   module _ (s : List ℕ) (row : ℕ) where
-    pub count_next : length (delta_rows class (options_to s (row + 1))) ≡ length (delta_rows class (options_to s row)) + cond (gives_row class (option_at s row)) 1 0
+    pub count_next : length (delta_rows class (options_to s (row + 1))) ≡ length (delta_rows class (options_to s row)) + one_row (option_at s row)
     count_next = rw (to_next s row, rows_next, length-append) (go (gives_row class (option_at s row)))
       where
         go : (gives : Bool) → length (delta_rows class (options_to s row)) + length (cond gives ((delta_leg (option_at s row)).row ∷ []) []) ≡ length (delta_rows class (options_to s row)) + cond gives 1 0
@@ -89,10 +91,25 @@ module _ (class : ℕ) where
   unfolding span
   count_none s = rw rows_none
 
-  -- as many rows as there are in the end, or fewer
-  count_grows : (s : List ℕ) (row more : ℕ) → length (delta_rows class (options_to s row)) ≤ length (delta_rows class (options_to s (row + more)))
-  count_grows s row zero = rw add-zero (omega arith)
-  count_grows s row (suc more) = rw (add-suc, ← add-one (row + more)) (omega (arith, count_next s (row + more), count_grows s row more))
+  -- of rows of any numbers
+  module _ (s : List ℕ) where
+    pub rows_many : (numbers : List ℕ) → length (delta_rows class (map (option_at s) numbers)) ≡ sum_of (λ k. one_row (option_at s k)) numbers
+    unfolding sum_of
+    rows_many [] = ap length rows_none
+    rows_many (k ∷ numbers) = rw (rows_one (option_at s k) (map (option_at s) numbers)) (go (gives_row class (option_at s k)) (delta_rows class (map (option_at s) numbers)) (rows_many numbers))
+      where
+        go : (gives : Bool) (rows : List Row) {sum : ℕ} → length rows ≡ sum
+            → length (cond gives ((delta_leg (option_at s k)).row ∷ rows) rows) ≡ cond gives 1 0 + sum
+        go true rows e = omega arith
+        go false rows e = omega arith
+
+    -- no more than there are in the end
+    count_within : (row : ℕ) → row ≤ option_count s → length (delta_rows class (options_to s row)) ≤ length (delta_rows class (options_of s))
+    count_within row within =
+        let rest : row + (option_count s - row) ≡ option_count s = omega arith in
+        let counted : ℕ → ℕ = λ k. one_row (option_at s k) in
+        let end = rw rest at (sum_grows counted row (option_count s - row)) in
+        rw (← to_all s {row = option_count s} refl) (omega (arith, rows_many (span 0 row), rows_many (span 0 (option_count s)), end))
 
   -- ---- written one by one
   pub record Rows (s : List ℕ) (at : ℕ) (out₀ out : List ℕ) (end row : ℕ) : Type 0 where
@@ -107,10 +124,8 @@ module _ (class : ℕ) where
     module _ {out : List ℕ} {end row : ℕ} (done : Rows s at out₀ out end row) where
       pub row_fits : at + length (delta_bytes class (options_of s)) ≤ length out₀ → row < option_count s → gives_row class (option_at s row) ≡ true → end + row_size ≤ length out₀
       row_fits fits more some =
-          let rest : row + 1 + (option_count s - (row + 1)) ≡ option_count s = omega arith in
-          let grown : length (delta_rows class (options_to s (row + 1))) ≤ length (delta_rows class (options_of s)) = rw (rest, to_all s refl) at (count_grows s (row + 1) (option_count s - (row + 1))) in
           let one : length (delta_rows class (options_to s (row + 1))) ≡ length (delta_rows class (options_to s row)) + 1 = rw some at (count_next s row) in
-          omega (arith, fits, done.is_end, bytes_length (options_of s), bytes_length (options_to s row), grown, one)
+          omega (arith, fits, done.is_end, bytes_length (options_of s), bytes_length (options_to s row), count_within s (row + 1) (omega arith), one)
 
       pub row_passed : gives_row class (option_at s row) ≡ false → Rows s at out₀ out end (row + 1)
       row_passed none = let same = bytes_same s row none in record { is_end = rw same done.is_end; so_far = rw same done.so_far }
@@ -124,6 +139,12 @@ module _ (class : ℕ) where
             is_end = rw (more, length-append) (omega (arith, done.is_end, size));
             so_far = rw more (written-more out₀ _ _ at end done.so_far writes done.is_end (omega (arith, fits, size)));
           }
+
+      pub same_room : at + length (delta_bytes class (options_of s)) ≤ length out₀ → row ≤ option_count s → length out ≡ length out₀
+      same_room fits within =
+          let so_far_fits : at + length (delta_bytes class (options_to s row)) ≤ length out₀ =
+          omega (arith, fits, bytes_length (options_of s), bytes_length (options_to s row), count_within s row within) in
+          ap length done.so_far ∙ written-length out₀ (delta_bytes class (options_to s row)) at so_far_fits
 
       pub all_rows : row ≡ option_count s → (end ≡ at + length (delta_bytes class (options_of s))) × (out ≡ written out₀ at (delta_bytes class (options_of s)))
       all_rows last = let all = to_all s last in (rw (← all) done.is_end, rw (← all) done.so_far)

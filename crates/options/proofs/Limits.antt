@@ -2,7 +2,7 @@
 -- Assumes nothing.
 use mathlib.Core.Bool.{Bool, true, false, cond, not, ◌&&◌}
 use mathlib.Core.List.{List}
-use Prim.Native.Nat.{ℕ, ◌+◌, ◌≤◌}
+use Prim.Native.Nat.{ℕ, ◌+◌, ◌*◌, ◌≤◌, ◌<◌}
 use native.Mathlib.Nat.{mul-le-mul}
 use native.Mathlib.Omega.{arith}
 use lib.Dec.{eqb}
@@ -17,24 +17,33 @@ use Rattle.charges.specs.Charges.{groups}
 use Rattle.charges.specs.Inner.Slots.{group_count}
 use Rattle.options.specs.Table.{OptionRow}
 use Rattle.options.specs.Greeks.{is_bought, bought_in, sold_in, sides_in, move_of, twice_gamma, half_short, gamma_charge, vega_of}
+use Rattle.options.specs.Accepted.{Allowed}
 use Rattle.options.specs.Inner.Sums.{most_twice_gamma, most_vega, Fields}
 use Rattle.options.proofs.Together.{sided}
 
 -- ---- one option
+-- two fields of two bytes
+pub two_fields : (a b : ℕ) → a < 65536 → b < 65536 → a * b ≤ most_vega
+two_fields a b h k =
+    let most-a : a ≤ 65535 = omega arith in
+    let most-b : b ≤ 65535 = omega arith in
+    mul-le-mul most-a most-b
+
+module _ (option : OptionRow) (ok : Allowed option) (narrow : option.gamma < 65536) where
+  pub of_gamma : option.amount * option.gamma ≤ 65535000000
+  of_gamma = let most : option.gamma ≤ 65535 = omega arith in mul-le-mul ok.amount_to most
+
+  pub of_moves : {by : ℕ} → by ≤ 15 → option.amount * option.gamma * (by * by) ≤ most_twice_gamma
+  of_moves small = mul-le-mul of_gamma (mul-le-mul small small)
+
 module _ (option : OptionRow) (fields : Fields option) where
   pub vega_within : vega_of option ≤ most_vega
   unfolding vega_of
-  vega_within =
-      let vega : option.vega ≤ 65535 = omega (arith, fields.vega) in
-      let volatility : option.volatility ≤ 65535 = omega (arith, fields.volatility) in
-      mul-le-mul vega volatility
+  vega_within = two_fields option.vega option.volatility fields.vega fields.volatility
 
   pub gamma_within : twice_gamma option ≤ most_twice_gamma
   unfolding twice_gamma move_of
-  gamma_within =
-      let gamma : option.gamma ≤ 65535 = omega (arith, fields.gamma) in
-      let move : cond {A = ℕ} (eqb option.class 4) 15 8 ≤ 15 = either (eqb option.class 4) 15 8 (omega arith) (omega arith) in
-      mul-le-mul (mul-le-mul fields.allowed.amount_to gamma) (mul-le-mul move move)
+  gamma_within = of_moves option fields.allowed fields.gamma (either (eqb option.class 4) 15 8 (omega arith) (omega arith))
 
 -- an option counts on one side at most
 one_side : (amount : OptionRow → ℕ) (class : ℕ) (option : OptionRow) → bought_in amount class option + sold_in amount class option ≤ amount option

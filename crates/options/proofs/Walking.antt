@@ -1,22 +1,53 @@
--- The rows of a table one by one: the rows so far, and the search for one that is out of range.
+-- The rows of a table one by one: their fields, the rows so far, and the search for one that is out of range.
 -- Assumes nothing.
 use mathlib.Core.Path.{◌≡◌, ◌∙◌}
 use mathlib.Core.Bool.{true, false}
 use mathlib.Core.List.{List, [], ◌∷◌, ◌++◌, map, map-append}
 use Prim.Native.Nat.{ℕ, zero, suc, ◌+◌, ◌-◌, ◌≤◌, ◌<◌}
-use native.Mathlib.Nat.{zero-add}
+use native.Mathlib.Nat.{zero-add, add-zero}
 use native.Mathlib.Decide.{ℕ_discrete}
 use native.Mathlib.Numerals.{add-one, lt_of_le_of_ne}
 use native.Mathlib.Omega.{arith}
+use lib.ListN.{take, drop, get_or}
 use Rattle.sums.specs.Sums.{span}
 use Rattle.sums.specs.Every.{Every, also}
 use Rattle.sums.proofs.Spans.{span_last}
+use Rattle.book.specs.Fields.{u16_at, u32_at}
 use Rattle.book.specs.Refusals.{refused}
-use Rattle.options.specs.Table.{OptionRow, option_count, option_at, options_of}
+use Rattle.book.proofs.Chunks.{part_byte, part_u16, part_u32}
+use Rattle.options.specs.Table.{OptionRow, option_size, decode_option, option_count, option_at, options_of}
 use Rattle.options.specs.Refusals.{allowed, first_outside, options_refusal}
 use Rattle.options.specs.Accepted.{Allowed}
 use Rattle.options.specs.Inner.Reading.{options_to}
 use Rattle.options.proofs.Ranges.{accepted_options}
+
+-- ---- the fields of the eighteen bytes at an offset
+module _ (s : List ℕ) (start : ℕ) where
+  pub option-fields : decode_option (take option_size (drop start s)) ≡ record {
+    class = get_or s start 0;
+    group = get_or s (start + 1) 0;
+    right = get_or s (start + 2) 0;
+    kind = get_or s (start + 3) 0;
+    amount = u32_at s (start + 4);
+    delta = u16_at s (start + 8);
+    gamma = u16_at s (start + 10);
+    vega = u16_at s (start + 12);
+    volatility = u16_at s (start + 14);
+    days = u16_at s (start + 16);
+  }
+  unfolding decode_option
+  option-fields =
+      let class = part_byte s start option_size 0 (omega arith) in
+      let group = part_byte s start option_size 1 (omega arith) in
+      let right = part_byte s start option_size 2 (omega arith) in
+      let kind = part_byte s start option_size 3 (omega arith) in
+      let amount = part_u32 s start option_size 4 (omega arith) in
+      let delta = part_u16 s start option_size 8 (omega arith) in
+      let gamma = part_u16 s start option_size 10 (omega arith) in
+      let vega = part_u16 s start option_size 12 (omega arith) in
+      let volatility = part_u16 s start option_size 14 (omega arith) in
+      let days = part_u16 s start option_size 16 (omega arith) in
+      simp (class, group, right, kind, amount, delta, gamma, vega, volatility, days, add-zero)
 
 module _ (s : List ℕ) where
   -- ---- the rows so far, and one more
