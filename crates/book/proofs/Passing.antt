@@ -3,14 +3,14 @@
 use mathlib.Core.Path.{◌≡◌, refl}
 use mathlib.Core.Bool.{Bool, true, false, cond, beq, ◌||◌, or-false, true≢false}
 use mathlib.Core.Logic.{◌⊎◌, inl, inr, ⊎_elim}
-use Prim.Native.Nat.{ℕ, ◌+◌, ◌<◌}
+use Prim.Native.Nat.{ℕ, ◌+◌, ◌<◌, ◌≤◌}
 use native.Mathlib.Nat.{zero-add, add-zero}
 use native.Mathlib.Omega.{arith}
 use lib.Dec.{ltb, eqb}
 use borrow.Author.Tests.{ltb-false, le-ltb, eqb-true, eqb-false, eq-eqb, ne_eqb}
 use Rattle.sums.proofs.Cases.{untaken, neither}
 use Rattle.book.specs.Rows.{Row}
-use Rattle.book.specs.Refusals.{floating, group_refusal, plain_refusal, note_refusal, terms_refusal, amounts_refusal, or_else, row_refusal}
+use Rattle.book.specs.Refusals.{most_amount, floating, group_refusal, plain_refusal, note_refusal, terms_refusal, amounts_refusal, or_else, row_refusal}
 use Rattle.book.specs.Accepted.{Terms, plain, note, Clean}
 
 -- neither of two refusals applies
@@ -40,9 +40,22 @@ over_sum most long short e =
     (λ h. rw (h.0, zero-add short, le-ltb most 0 (omega arith)))
     (one_side long short e)
 
-one_test : (long short : ℕ) → ((0 < long) × (short ≡ 0)) ⊎ ((long ≡ 0) × (0 < short)) → beq (eqb long 0) (eqb short 0) ≡ false
+pub one_test : (long short : ℕ) → ((0 < long) × (short ≡ 0)) ⊎ ((long ≡ 0) × (0 < short)) → beq (eqb long 0) (eqb short 0) ≡ false
 one_test long short (inl h) = simp (ne_eqb long 0 (λ e. omega arith), eq-eqb short 0 h.1)
 one_test long short (inr h) = simp (eq-eqb long 0 h.0, ne_eqb short 0 (λ e. omega arith))
+
+-- ---- the amounts
+module _ (row : Row) where
+  pub amounts_clean : amounts_refusal row ≡ 0 → (((0 < row.long) × (row.short ≡ 0)) ⊎ ((row.long ≡ 0) × (0 < row.short))) × ((row.long ≤ most_amount) × (row.short ≤ most_amount))
+  unfolding amounts_refusal
+  amounts_clean e =
+      let sides = untaken _ 7 _ e in
+      let amounts = neither _ _ (untaken _ 8 0 sides.1).0 in
+      (one_side _ _ sides.0, (ltb-false _ _ amounts.0, ltb-false _ _ amounts.1))
+
+  pub clean_amounts : ((0 < row.long) × (row.short ≡ 0)) ⊎ ((row.long ≡ 0) × (0 < row.short)) → row.long ≤ most_amount → row.short ≤ most_amount → amounts_refusal row ≡ 0
+  unfolding amounts_refusal
+  clean_amounts one long short = simp (one_test row.long row.short one, le-ltb _ _ long, le-ltb _ _ short)
 
 -- ---- days and coupon, or the two maturities of a note
 module _ (class : ℕ) (row : Row) where
@@ -67,33 +80,30 @@ module _ (class : ℕ) (row : Row) where
 -- ---- the whole row
 module _ (class : ℕ) (row : Row) where
   pub passes_clean : row_refusal class row ≡ 0 → Clean class row
-  unfolding row_refusal group_refusal amounts_refusal
+  unfolding row_refusal group_refusal
   passes_clean e =
       let past5 = none_of _ _ e in
       let past7 = none_of _ _ past5.1 in
       let of-group = untaken _ 3 _ past5.0 in
       let of-kind = neither _ _ (untaken _ 4 0 of-group.1).0 in
-      let of-sides = untaken _ 7 _ past7.1 in
-      let of-amount = neither _ _ (untaken _ 8 0 of-sides.1).0 in
+      let of-amounts = amounts_clean row past7.1 in
       record {
         group = ltb-false _ _ of-group.0;
         kind_from = ltb-false _ _ of-kind.0;
         kind_to = ltb-false _ _ of-kind.1;
         terms = terms_allowed class row past7.0;
-        one_side = one_side _ _ of-sides.0;
-        long = ltb-false _ _ of-amount.0;
-        short = ltb-false _ _ of-amount.1;
+        one_side = of-amounts.0;
+        long = of-amounts.1.0;
+        short = of-amounts.1.1;
       }
 
   pub clean_passes : Clean class row → row_refusal class row ≡ 0
-  unfolding row_refusal group_refusal amounts_refusal or_else
+  unfolding row_refusal group_refusal or_else
   clean_passes clean =
       simp (
         le-ltb _ _ clean.group,
         le-ltb _ _ clean.kind_from,
         le-ltb _ _ clean.kind_to,
         allowed-terms class row clean.terms,
-        one_test row.long row.short clean.one_side,
-        le-ltb _ _ clean.long,
-        le-ltb _ _ clean.short,
+        clean_amounts row clean.one_side clean.long clean.short,
       )

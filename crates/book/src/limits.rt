@@ -1,5 +1,5 @@
 // What the fields of a row may hold, by its class: a number, and the tests answer for every number.
-ghost use Rattle.std.specs.Prelude.{◌≡◌, cond, ◌||◌, ltb};
+ghost use Rattle.std.specs.Prelude.{◌≡◌, cond, ◌||◌, eqb, ltb};
 ghost use Rattle.book.specs.Reasons.{number_in};
 ghost use Rattle.book.specs.Refusals.{least_kind, most_kind, most_days, most_coupon, floating, group_refusal, terms_refusal, amounts_refusal, row_refusal};
 
@@ -103,19 +103,27 @@ pub fn check_terms(class: usize, row: Row) -> Result<(), Reason>
     Ok(())
 }
 
-// 8 or 9, by the amounts of a row; past 8 one of them is zero, so that their sum is the other.
+// Whether one amount of a row is zero, and the other, which then is their sum, in its range.
+fn are_amounts_allowed(row: Row) -> bool
+    ensures { result ≡ eqb (amounts_refusal row) 0 }
+{
+    if row.long.min(row.short) != 0 {
+        return false;
+    }
+    let amount = row.long + row.short;
+    1 <= amount && amount <= MOST_AMOUNT
+}
+
+// 8 or 9, by the amounts of a row. Which of them, is asked after the test that every row takes, so
+// that a row that passes takes two comparisons.
 pub fn check_amounts(row: Row) -> Result<(), Reason>
     ensures { number_in result ≡ amounts_refusal row }
 {
-    let long = row.long;
-    let short = row.short;
-    if (long == 0) == (short == 0) {
-        return Err(Reason::Sides);
+    if are_amounts_allowed(row) {
+        return Ok(());
     }
-    if MOST_AMOUNT < long + short {
-        return Err(Reason::Amount);
-    }
-    Ok(())
+    let sides = (row.long == 0) == (row.short == 0);
+    Err(either(sides, Reason::Sides, Reason::Amount))
 }
 
 // The first of the reasons 4 to 9, or 15, against a row of a class.
