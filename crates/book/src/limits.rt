@@ -114,8 +114,7 @@ fn are_amounts_allowed(row: Row) -> bool
     1 <= amount && amount <= MOST_AMOUNT
 }
 
-// 8 or 9, by the amounts of a row. Which of them, is asked after the test that every row takes, so
-// that a row that passes takes two comparisons.
+// 8 or 9, by the amounts of a row. Which one is asked only of a row that does not pass.
 pub fn check_amounts(row: Row) -> Result<(), Reason>
     ensures { number_in result ≡ amounts_refusal row }
 {

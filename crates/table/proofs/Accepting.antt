@@ -9,13 +9,14 @@ use native.Mathlib.Nat.{le_refl}
 use native.Mathlib.Numerals.{add-one}
 use native.Mathlib.Omega.{arith}
 use lib.ListN.{length, get_or, get_or-eq_default}
-use Rattle.std.proofs.Common.{Ok, Err}
+use Rattle.std.proofs.Common.{Result, Ok, Err}
 use borrow.Author.Tests.{leb-true, le-leb, eqb-true, eq-eqb}
 use Rattle.sums.specs.Sums.{span}
 use Rattle.sums.proofs.Cases.{both, untaken}
 use Rattle.sums.proofs.Filling.{listed_at, listed_length}
 use Rattle.book.specs.Fields.{u16_at}
-use Rattle.book.specs.Reasons.{number_of}
+use Rattle.book.specs.declared.Reason.{Reason}
+use Rattle.book.specs.Reasons.{number_of, number_in}
 use Rattle.ladder.specs.declared.Percents.{Percents}
 use Rattle.ladder.specs.declared.Table.{Table}
 use Rattle.ladder.specs.Table.{AcceptedPercents, most_weight, weight_in}
@@ -153,23 +154,38 @@ module _ (bytes : List ℕ) where
       le_ind (λ (k : ℕ). k < table_bands → weight_at bytes band ≤ weight_at bytes k) (λ below. le_refl _)
       (λ k from so_far below. omega (arith, so_far (omega arith), rw add-one at (ok.never_fall k (omega arith)))) 14 (omega arith) (omega arith))
 
--- ---- what was loaded
+-- ---- what was loaded, by the number that the answer has and the table that it gives
 module _ (bytes : List ℕ) where
-  pub loaded_number : (table : RefusedTable) → loaded (Err table) ≡ loaded_of bytes → number_of table.reason ≡ table_refusal bytes
-  unfolding loaded loaded_of
-  loaded_number table is = ap (λ (l : Loaded). l.number) is
+  pub loaded_number : (answer : Result Table Reason) → number_in answer ≡ (loaded_of bytes).number → number_in answer ≡ table_refusal bytes
+  unfolding loaded_of
+  loaded_number answer is = is
+
+  module _ (table : Table) (is : number_in (Ok table) ≡ (loaded_of bytes).number) where
+    pub not_refused : table_refusal bytes ≡ 0
+    unfolding number_in
+    not_refused = sym (loaded_number (Ok table) is)
+
+    pub loaded_accepted : table ≡ table_of bytes → TableBounds table
+    loaded_accepted e = rw e (accepted_table bytes (described bytes not_refused))
+
+-- ---- and where it tells what a refused table holds, as `load` does
+module _ (bytes : List ℕ) where
+  pub refused_number : (table : RefusedTable) → loaded (Err table) ≡ loaded_of bytes → number_of table.reason ≡ table_refusal bytes
+  unfolding loaded number_in
+  refused_number table is = loaded_number bytes (Err table.reason) (ap (λ (l : Loaded). l.number) is)
 
   module _ (table : Table) (is : loaded (Ok table) ≡ loaded_of bytes) where
-    pub not_refused : table_refusal bytes ≡ 0
-    unfolding loaded loaded_of
-    not_refused = sym (ap (λ (l : Loaded). l.number) is)
+    pub loaded_passed : table_refusal bytes ≡ 0
+    unfolding loaded number_in
+    loaded_passed = not_refused bytes table (ap (λ (l : Loaded). l.number) is)
 
     pub loaded_table : table ≡ table_of bytes
     unfolding loaded loaded_of
-    loaded_table = ap (λ (l : Loaded). l.table) is ∙ rw (eq-eqb (length bytes) table_size (described bytes not_refused).sized) refl
+    loaded_table = ap (λ (l : Loaded). l.table) is ∙ rw (eq-eqb (length bytes) table_size (described bytes loaded_passed).sized) refl
 
-    pub loaded_accepted : TableBounds table
-    loaded_accepted = rw loaded_table (accepted_table bytes (described bytes not_refused))
+    pub loaded_bounds : TableBounds table
+    unfolding loaded number_in
+    loaded_bounds = loaded_accepted bytes table (ap (λ (l : Loaded). l.number) is) loaded_table
 
 -- ---- document 01's table is one of them
 pub standard_accepted : table_refusal standard_bytes ≡ 0
