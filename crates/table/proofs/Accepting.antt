@@ -154,7 +154,7 @@ module _ (bytes : List ℕ) where
       le_ind (λ (k : ℕ). k < table_bands → weight_at bytes band ≤ weight_at bytes k) (λ below. le_refl _)
       (λ k from so_far below. omega (arith, so_far (omega arith), rw add-one at (ok.never_fall k (omega arith)))) 14 (omega arith) (omega arith))
 
--- ---- what was loaded, by the number that the answer has and the table that it gives
+-- ---- what was loaded: by an answer that has the number of the loading
 module _ (bytes : List ℕ) where
   pub loaded_number : (answer : Result Table Reason) → number_in answer ≡ (loaded_of bytes).number → number_in answer ≡ table_refusal bytes
   unfolding loaded_of
@@ -168,16 +168,15 @@ module _ (bytes : List ℕ) where
     pub loaded_accepted : table ≡ table_of bytes → TableBounds table
     loaded_accepted e = rw e (accepted_table bytes (described bytes not_refused))
 
--- ---- and where it tells what a refused table holds, as `load` does
-module _ (bytes : List ℕ) where
+  -- and by an answer of `load`, which tells also what a refused table holds
   pub refused_number : (table : RefusedTable) → loaded (Err table) ≡ loaded_of bytes → number_of table.reason ≡ table_refusal bytes
   unfolding loaded number_in
-  refused_number table is = loaded_number bytes (Err table.reason) (ap (λ (l : Loaded). l.number) is)
+  refused_number table is = loaded_number (Err table.reason) (ap (λ (l : Loaded). l.number) is)
 
   module _ (table : Table) (is : loaded (Ok table) ≡ loaded_of bytes) where
     pub loaded_passed : table_refusal bytes ≡ 0
     unfolding loaded number_in
-    loaded_passed = not_refused bytes table (ap (λ (l : Loaded). l.number) is)
+    loaded_passed = not_refused table (ap (λ (l : Loaded). l.number) is)
 
     pub loaded_table : table ≡ table_of bytes
     unfolding loaded loaded_of
@@ -185,7 +184,7 @@ module _ (bytes : List ℕ) where
 
     pub loaded_bounds : TableBounds table
     unfolding loaded number_in
-    loaded_bounds = loaded_accepted bytes table (ap (λ (l : Loaded). l.number) is) loaded_table
+    loaded_bounds = loaded_accepted table (ap (λ (l : Loaded). l.number) is) loaded_table
 
 -- ---- document 01's table is one of them
 pub standard_accepted : table_refusal standard_bytes ≡ 0
